@@ -1,0 +1,65 @@
+-- What fit settings say of one register and of the book. Assumes nothing.
+use Prim.Native.Nat.{ℕ, zero, suc, _+_, _≤_, _<_, min}
+use native.Mathlib.Omega.{arith}
+use mathlib.Core.Path.{_≡_, refl}
+use mathlib.Core.Bool.{Bool, true, false, cond, _&&_, _||_}
+use mathlib.Core.List.{List, [], _∷_}
+use lib.Dec.{leb, eqb}
+use borrow.Author.Tests.{leb-true, leb-false, ne-eqb, lt-leb}
+use Rattle.model.specs.declared.Usable.{Usable}
+use Rattle.model.specs.declared.Shares.{Shares}
+use Rattle.model.specs.declared.Settings.{Settings}
+use Rattle.runs.proofs.Cases.{by-test, each-true, no}
+use Rattle.model.specs.Numbers.{between, cap64}
+use Rattle.model.specs.Settings.{ring-of, power-of-two, window-fit, usable-fit, shares-fit, usable-at, fit-at, settings-fit}
+use Rattle.model.proofs.Choice.{or-cases, true-false}
+
+-- a ring has positions
+pub ring-positive : (u : Usable) → 0 < ring-of u
+unfolding ring-of cap64
+ring-positive u = omega arith
+
+pub power-small : (n : ℕ) → power-of-two n ≡ true → n ≤ 1_024
+unfolding power-of-two
+power-small n t =
+    by-test (leb n 1_024) (λ e. leb-true n 1_024 e)
+    (λ e.
+    let h = leb-false n 1_024 e in
+    let z : false ≡ true =
+    rw (ne-eqb n 2 (λ q. omega arith), ne-eqb n 4 (λ q. omega arith), ne-eqb n 8 (λ q. omega arith), ne-eqb n 16 (λ q. omega arith), ne-eqb n 32 (λ q. omega arith), ne-eqb n 64 (λ q. omega arith), ne-eqb n 128 (λ q. omega arith), ne-eqb n 256 (λ q. omega arith), ne-eqb n 512 (λ q. omega arith), ne-eqb n 1_024 (λ q. omega arith)) at t in
+    no (cc))
+
+pub slots-small : (u : Usable) → usable-fit u ≡ true → u .slots ≤ 1_024
+unfolding usable-fit
+slots-small u t =
+    power-small (u .slots)
+    (each-true (window-fit (u .origin)) (window-fit (u .copy) ∷ between 1 60_000 (u .bucket) ∷ power-of-two (u .slots) ∷ leb (ring-of u) 256 ∷ []) t .1 .1 .1 .0)
+
+abbrev fits : Settings → List Bool
+fits s = shares-fit (s .shares) ∷ fit-at s 0 ∷ fit-at s 1 ∷ fit-at s 2 ∷ fit-at s 3 ∷ []
+
+pub fit-shares : (s : Settings) → settings-fit s ≡ true → shares-fit (s .shares) ≡ true
+unfolding settings-fit
+fit-shares s t = each-true (between 1 4 (s .registers)) (fits s) t .1 .0
+
+from-fit : (s : Settings) (r : ℕ) → fit-at s r ≡ true → r < s .registers → usable-fit (usable-at s r) ≡ true
+from-fit s r t h =
+    or-cases (leb (s .registers) r) (usable-fit (usable-at s r)) t (λ e. true-false e (lt-leb (s .registers) r h)) (λ e. e)
+
+-- the settings of every register that there is
+pub fit-usable : (s : Settings) (r : ℕ) → settings-fit s ≡ true → r < s .registers → usable-fit (usable-at s r) ≡ true
+unfolding settings-fit
+fit-usable s zero t h = from-fit s 0 (each-true (between 1 4 (s .registers)) (fits s) t .1 .1 .0) h
+fit-usable s (suc zero) t h = from-fit s 1 (each-true (between 1 4 (s .registers)) (fits s) t .1 .1 .1 .0) h
+fit-usable s (suc (suc zero)) t h = from-fit s 2 (each-true (between 1 4 (s .registers)) (fits s) t .1 .1 .1 .1 .0) h
+fit-usable s (suc (suc (suc zero))) t h = from-fit s 3 (each-true (between 1 4 (s .registers)) (fits s) t .1 .1 .1 .1 .1) h
+fit-usable s (suc (suc (suc (suc r)))) t h =
+    let p = each-true (leb 1 (s .registers)) (leb (s .registers) 4 ∷ []) (each-true (between 1 4 (s .registers)) (fits s) t .0) in
+    let k = leb-true (s .registers) 4 (p .1) in
+    absurd (omega arith)
+
+pub registers-some : (s : Settings) → settings-fit s ≡ true → (1 ≤ s .registers) × (s .registers ≤ 4)
+unfolding settings-fit
+registers-some s t =
+    let p = each-true (leb 1 (s .registers)) (leb (s .registers) 4 ∷ []) (each-true (between 1 4 (s .registers)) (fits s) t .0) in
+    (leb-true 1 (s .registers) (p .0), leb-true (s .registers) 4 (p .1))

@@ -1,0 +1,213 @@
+-- No ticket is accepted twice (specs/Once): from any words, for any list of calls and any list of events. Assumes nothing.
+use Prim.Native.Nat.{ℕ, zero, suc, _<_}
+use mathlib.Core.Path.{_≡_, refl, sym, _∙_, ap, subst}
+use mathlib.Core.Bool.{Bool, true, false, cond, _&&_}
+use mathlib.Core.List.{List, [], _∷_, _++_}
+use mathlib.Core.Option.{Option, none, some}
+use lib.Dec.{eqb}
+use borrow.Author.Tests.{eqb-true}
+use Rattle.model.specs.declared.Settings.{Settings}
+use Rattle.model.specs.declared.Verdict.the-variants.{New}
+use Rattle.model.specs.declared.Answer.{Answer}
+use Rattle.model.specs.declared.Answer.the-variants.{Refused, Done, Said, Yes, No, Begun, Already, Dumped, Whole, Partly, NoFloor, FloorAt, SweptTo, Entries, Totals}
+use Rattle.runs.proofs.Cases.{by-test, no}
+use Rattle.model.specs.Settings.{settings-of, usable-at}
+use Rattle.model.specs.Register.{Register}
+use Rattle.model.specs.Judge.{bucket-of}
+use Rattle.model.specs.Words.{State}
+use Rattle.model.specs.Calls.{Call, Open, On, Expire, SetLimits, Close, HeldBy, ClassTotals, is-open, register-at, step, held-in, refused, reply, after}
+use Rattle.model.specs.View.{Given, answered, left-by}
+use Rattle.model.specs.Soundness.{went-through, Vetted}
+use Rattle.model.specs.Once.{Strike, Kind, kind, asks-about, takes, remakes, Moment, Answered, Replacement, Accepted, CalledNew, remade, unless, Never, Once, moments, left-by-all, NoTicketTwice, Event, Calls, Replaces, Aside, LeavesAlone, left-by-event, event-moments, all-moments, AsideOf, AllAside, NoTicketTwiceAmong}
+use Rattle.model.proofs.Choice.{and-false, true-false}
+use Rattle.model.proofs.Struck.{Struck}
+use Rattle.model.proofs.Refusals.{step-through}
+use Rattle.model.proofs.Simulates.{entered, vetted-ok, one-settings, reply-is, after-vetted, after-holds}
+use Rattle.model.proofs.Guarded.{StruckIn, good, strikes, none-some}
+
+-- ---- the guard: under whatever settings the words are vetted, the state that they hold has struck the ticket
+pub record Guarded (t : Strike) (ws : List ℕ) : Type 0 where
+  pub struck : (st : List ℕ) → Vetted st ws → StruckIn (settings-of st) t (held-in (settings-of st) ws)
+
+-- words that are vetted are so under one settings only: so one settings will do
+guarded-by : (t : Strike) (st ws : List ℕ) → Vetted st ws → StruckIn (settings-of st) t (held-in (settings-of st) ws) → Guarded t ws
+guarded-by t st ws v h =
+    record { struck = λ st′ v′. subst (λ (s : Settings). StruckIn s t (held-in s ws)) (one-settings st st′ ws v v′) h }
+
+-- a step's own answer is no refusal, so a call that remakes a register and steps did go through
+through-is : (a : Answer) → ((n : ℕ) → a ≡ Refused n → ⊥) → went-through a ≡ true
+unfolding went-through
+through-is (Refused n) f = absurd (f n refl)
+through-is Done f = refl
+through-is (Said v) f = refl
+through-is Yes f = refl
+through-is No f = refl
+through-is Begun f = refl
+through-is Already f = refl
+through-is (Dumped n) f = refl
+through-is (Whole n) f = refl
+through-is (Partly n) f = refl
+through-is NoFloor f = refl
+through-is (FloorAt x) f = refl
+through-is (SweptTo b ms) f = refl
+through-is (Entries n) f = refl
+through-is (Totals e h u x) f = refl
+
+-- ---- one call, of words and settings that are any
+module _ (st ws : List ℕ) (call : Call) where
+  abbrev s : Settings
+  s = settings-of st
+
+  abbrev held : State
+  held = held-in s ws
+
+  abbrev seen : Moment
+  seen = Answered call (reply st ws call)
+
+  -- it is refused: nothing is altered
+  module _ (e : eqb (refused st ws call) 0 ≡ false) where
+    refused-words : after st ws call ≡ ws
+    unfolding after
+    refused-words = rw e
+
+    refused-new : reply st ws call ≡ Said New → ⊥
+    unfolding reply
+    refused-new n = let q : Refused (refused st ws call) ≡ Said New = rw e at n in no (cc)
+
+  -- it goes through
+  module _ (z : refused st ws call ≡ 0) where
+    was-vetted : is-open call ≡ false → Vetted st ws
+    was-vetted o = let e = entered st ws call z in record { fit = e .fit; long = e .long; sound = e .vets o }
+
+    -- what is struck in the state that is left is guarded by the words that are left
+    guarded-after : (t : Strike) → StruckIn s t (step s call held .state) → Guarded t (after st ws call)
+    guarded-after t h =
+        guarded-by t st (after st ws call) (after-vetted st ws call z)
+        (subst (λ (x : State). StruckIn s t x) (sym (after-holds st ws call z)) h)
+
+    -- an opening asks about no ticket and remakes every register
+    opens-all : (r : ℕ) (c : Call) → is-open c ≡ true → remakes r (kind c) ≡ true
+    unfolding is-open kind remakes
+    opens-all r (Open limits starts) o = refl
+    opens-all r (On q d) o = no (cc)
+    opens-all r (Expire ms) o = no (cc)
+    opens-all r (SetLimits limits) o = no (cc)
+    opens-all r Close o = no (cc)
+    opens-all r (HeldBy k number) o = no (cc)
+    opens-all r (ClassTotals c) o = no (cc)
+
+    opens-silent : (t : Strike) (c : Call) → is-open c ≡ true → asks-about (kind c) ≡ some t → ⊥
+    unfolding is-open kind asks-about
+    opens-silent t (Open limits starts) o e = none-some e
+    opens-silent t (On q d) o e = no (cc)
+    opens-silent t (Expire ms) o e = none-some e
+    opens-silent t (SetLimits limits) o e = none-some e
+    opens-silent t Close o e = none-some e
+    opens-silent t (HeldBy k number) o e = none-some e
+    opens-silent t (ClassTotals c) o e = none-some e
+
+    not-remade : (t : Strike) → remade (t .register) seen ≡ false → remakes (t .register) (kind call) ≡ false
+    not-remade t e =
+        and-false (remakes (t .register) (kind call)) (went-through (reply st ws call)) e (λ d. d)
+        (λ d. true-false (ap went-through (reply-is st ws call z) ∙ through-is (step s call held .answer) (step-through s call held)) d)
+
+  module _ (t : Strike) (pos : 0 < t .print) (g : Guarded t ws) where
+    call-keeps : remade (t .register) seen ≡ false → Guarded t (after st ws call)
+    call-keeps e =
+        by-test (eqb (refused st ws call) 0)
+        (λ d. let z = eqb-true (refused st ws call) 0 d in
+        let r = not-remade z t e in
+        by-test (is-open call) (λ o. true-false (opens-all z (t .register) call o) r)
+        (λ o. let v = was-vetted z o in
+        guarded-after z t (good s t pos call held (entered st ws call z .register) (vetted-ok st ws v) (g .struck st v) .keeps r)))
+        (λ d. subst (λ (l : List ℕ). Guarded t l) (sym (refused-words d)) g)
+
+    call-silent : CalledNew t seen → ⊥
+    call-silent c =
+        by-test (eqb (refused st ws call) 0)
+        (λ d. let z = eqb-true (refused st ws call) 0 d in
+        by-test (is-open call) (λ o. opens-silent z t call o (c .0))
+        (λ o. let v = was-vetted z o in
+        good s t pos call held (entered st ws call z .register) (vetted-ok st ws v) (g .struck st v) .silent (c .0) (sym (reply-is st ws call z) ∙ c .1)))
+        (λ d. refused-new d (c .1))
+
+  takes-asks : (t : Strike) (k : Kind) → takes k ≡ some t → asks-about k ≡ some t
+  unfolding takes asks-about
+  takes-asks t (Kind.Asks u) e = absurd (none-some e)
+  takes-asks t (Kind.Takes u) e = e
+  takes-asks t Kind.Opens e = e
+  takes-asks t (Kind.Remakes r) e = e
+  takes-asks t Kind.Other e = e
+
+  -- a take that answers New leaves its ticket guarded
+  call-strikes : (t : Strike) → Accepted t seen → (0 < t .print) × Guarded t (after st ws call)
+  call-strikes t c =
+      by-test (eqb (refused st ws call) 0)
+      (λ d. let z = eqb-true (refused st ws call) 0 d in
+      by-test (is-open call) (λ o. absurd (opens-silent z t call o (takes-asks t (kind call) (c .0))))
+      (λ o. let v = was-vetted z o in
+      let k = strikes s t call held (entered st ws call z .register) (vetted-ok st ws v) (c .0) (sym (reply-is st ws call z) ∙ c .1) in
+      (k .0, guarded-after z t (k .1))))
+      (λ d. absurd (refused-new d (c .1)))
+
+-- ---- lists of calls, with more moments after them
+unless-holds : (b : Bool) {X : Type 0} → (b ≡ false → X) → unless b X
+unless-holds true f = tt
+unless-holds false f = f refl
+
+never-among : (t : Strike) → 0 < t .print → (gs : List Given) (ws : List ℕ) (ms : List Moment) → Guarded t ws
+    → (Guarded t (left-by-all ws gs) → Never t ms) → Never t (moments ws gs ++ ms)
+unfolding moments left-by-all
+never-among t pos [] ws ms g f = f g
+never-among t pos (h ∷ gs) ws ms g f =
+    unless-holds (remade (t .register) (Answered (h .call) (answered ws h)))
+    (λ e. (call-silent (h .settings) ws (h .call) t pos g, never-among t pos gs (left-by ws h) ms (call-keeps (h .settings) ws (h .call) t pos g e) f))
+
+-- ---- lists of events
+module _ (r : ℕ) where
+  aside-keeps : (t : Strike) → t .register ≡ r → (ws after : List ℕ) → LeavesAlone r ws after → Guarded t ws → Guarded t after
+  aside-keeps t e ws after alone g = record {
+    struck = λ st v.
+        let same = subst (λ (q : ℕ). register-at q (held-in (settings-of st) after) ≡ register-at q (held-in (settings-of st) ws)) (sym e) (alone .same st v) in
+        subst (λ (x : Register). Struck (bucket-of (usable-at (settings-of st) (t .register)) (t .stamp)) (t .print) (t .stamp) x) (sym same)
+        (g .struck st (alone .was-vetted st v));
+  }
+
+  never-all : (t : Strike) → 0 < t .print → t .register ≡ r → (es : List Event) (ws : List ℕ) → AllAside r ws es → Guarded t ws → Never t (all-moments ws es)
+  unfolding all-moments event-moments left-by-event
+  never-all t pos e [] ws a g = tt
+  never-all t pos e (Calls gs ∷ es) ws a g =
+      never-among t pos gs ws (all-moments (left-by-all ws gs) es) g (never-all t pos e es (left-by-all ws gs) (a .1))
+  never-all t pos e (Replaces after ∷ es) ws a g = tt
+  never-all t pos e (Aside after ∷ es) ws a g = never-all t pos e es after (a .1) (aside-keeps t e ws after (a .0) g)
+
+  -- after each moment of some calls, and then of the rest
+  once-among : (gs : List Given) (ws : List ℕ) (es : List Event) → AllAside r (left-by-all ws gs) es
+      → Once r (all-moments (left-by-all ws gs) es) → Once r (moments ws gs ++ all-moments (left-by-all ws gs) es)
+  unfolding moments left-by-all
+  once-among [] ws es a o = o
+  once-among (h ∷ gs) ws es a o = (
+    (λ t e c. let k = call-strikes (h .settings) ws (h .call) t c in
+        never-among t (k .0) gs (left-by ws h) (all-moments (left-by-all (left-by ws h) gs) es) (k .1) (never-all t (k .0) e es (left-by-all (left-by ws h) gs) a)),
+    once-among gs (left-by ws h) es a o,
+  )
+
+  once-all : (es : List Event) (ws : List ℕ) → AllAside r ws es → Once r (all-moments ws es)
+  unfolding all-moments event-moments left-by-event
+  once-all [] ws a = tt
+  once-all (Calls gs ∷ es) ws a = once-among gs ws es (a .1) (once-all es (left-by-all ws gs) (a .1))
+  once-all (Replaces after ∷ es) ws a = ((λ t e c. absurd c), once-all es after (a .1))
+  once-all (Aside after ∷ es) ws a = once-all es after (a .1)
+
+-- ---- the promise among events, and of a list of calls alone
+pub no-ticket-twice-among : NoTicketTwiceAmong
+no-ticket-twice-among ws es r a = once-all r es ws a
+
+nothing-after : (ms : List Moment) → ms ++ [] ≡ ms
+nothing-after [] = refl
+nothing-after (m ∷ ms) = ap (λ (l : List Moment). m ∷ l) (nothing-after ms)
+
+pub no-ticket-twice : NoTicketTwice
+unfolding all-moments event-moments left-by-event
+no-ticket-twice ws gs r =
+    subst (λ (ms : List Moment). Once r ms) (nothing-after (moments ws gs)) (no-ticket-twice-among ws (Calls gs ∷ []) r (tt, tt))

@@ -1,0 +1,92 @@
+-- "Judge and take", second paragraph: a generation's slots, probing, growth and insertion. A slot of 0 is empty.
+use Prim.Native.Nat.{ℕ, zero, suc, _+_, _*_, _%_, max}
+use mathlib.Core.Bool.{Bool, true, false, cond, _||_}
+use mathlib.Core.List.{List, [], _∷_}
+use lib.Dec.{leb, eqb}
+use lib.ListN.{length, getD, set, replicate}
+use Rattle.model.specs.declared.Probe.{Probe}
+use Rattle.model.specs.declared.Probe.the-variants.{Held, Free, Nowhere}
+
+-- The fingerprints of one bucket. As many slots as it has are listed; what it holds is counted from them.
+pub record Generation : Type 0 where
+  pub bucket : ℕ
+  pub newest : ℕ
+  pub slots : List ℕ
+
+abbrev pub empty : Generation
+empty = record { bucket = 0; newest = 0; slots = [] }
+
+-- ---- what slots hold
+unfoldable pub count : List ℕ → ℕ
+count [] = 0
+count (x ∷ xs) = cond (eqb x 0) 0 1 + count xs
+
+abbrev pub held : Generation → ℕ
+held g = count (g .slots)
+
+unfoldable pub among : ℕ → List ℕ → Bool
+among fp [] = false
+among fp (x ∷ xs) = eqb fp x || among fp xs
+
+-- "fingerprint (64-bit word, 0 read as 1)"
+unfoldable pub as-read : ℕ → ℕ
+as-read fp = max fp 1
+
+-- ---- "Probing starts at fingerprint mod slots and goes up, round the end."
+abbrev pub next : ℕ → ℕ → ℕ
+next n i = cond (eqb (i + 1) n) 0 (i + 1)
+
+-- from slot i on, within so many steps
+unfoldable pub probe-from : List ℕ → ℕ → ℕ → ℕ → Probe
+probe-from s fp zero i = Nowhere
+probe-from s fp (suc steps) i =
+    cond (eqb (getD s i 0) fp) (Held i) (cond (eqb (getD s i 0) 0) (Free i) (probe-from s fp steps (next (length s) i)))
+
+unfoldable pub probe : List ℕ → ℕ → Probe
+probe s fp = probe-from s fp (length s) (fp % length s)
+
+abbrev pub put-at : Probe → List ℕ → ℕ → List ℕ
+put-at (Held i) s fp = s
+put-at (Free i) s fp = set s i fp
+put-at Nowhere s fp = s
+
+unfoldable pub put : List ℕ → ℕ → List ℕ
+put s fp = put-at (probe s fp) s fp
+
+-- ---- "Slots double from their present number, at least 1, while 4 × (held + 1) > 3 × slots, even if the fingerprint is already held."
+abbrev pub LEAST : ℕ
+LEAST = 1
+
+-- n fingerprints are at most three quarters of the slots after 4 × n doublings, or sooner
+unfoldable pub doubled : ℕ → ℕ → ℕ → ℕ
+doubled zero n slots = slots
+doubled (suc steps) n slots = let more = doubled steps n (2 * slots) in cond (leb (4 * n) (3 * slots)) slots more
+
+-- the slots that a generation has once a fingerprint is inserted; `known` says that it is held already, and changes nothing
+unfoldable pub slots-for : Bool → List ℕ → ℕ
+slots-for known s = doubled (4 * suc (count s)) (suc (count s)) (max (length s) LEAST)
+
+-- ---- "Growth re-inserts in old slot order."
+unfoldable pub refill : List ℕ → List ℕ → List ℕ
+refill [] s = s
+refill (x ∷ xs) s = refill xs (cond (eqb x 0) s (put s x))
+
+unfoldable pub grown : ℕ → List ℕ → List ℕ
+grown wanted s = cond (eqb wanted (length s)) s (refill s (replicate wanted 0))
+
+-- ---- "else it inserts, and newest becomes the larger of itself and the stamp"
+unfoldable pub insert : ℕ → ℕ → ℕ → Generation → Generation
+insert bucket fp stamp g = record {
+  bucket = bucket;
+  newest = max (g .newest) stamp;
+  slots = put (grown (slots-for (among fp (g .slots)) (g .slots)) (g .slots)) fp;
+}
+
+-- dropped: it holds nothing, and its bucket word stays
+unfoldable pub dropped : Generation → Generation
+dropped g = record { bucket = g .bucket; newest = 0; slots = [] }
+
+-- the rules of this file, for a theorem that computes
+unfoldable pub compute-generation : ℕ
+unfolding count among as-read probe-from probe put doubled slots-for refill grown insert dropped
+compute-generation = 0

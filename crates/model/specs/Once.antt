@@ -1,0 +1,181 @@
+-- "No ticket is accepted twice", for every list of calls on the same words, whatever the clock reads.
+--
+-- After a take or a take_batch answered New for a fingerprint (as read) and a stamp on a register, no later judge, take,
+-- judge_batch or take_batch on that register answers New for the same, up to an opening, or a restore or resume on that register,
+-- that went through. The words at the start are any words; each call brings its own settings, register, reading and bytes; calls
+-- that are refused stand in the list like the others.
+use Prim.Native.Nat.{ℕ}
+use mathlib.Core.Path.{_≡_}
+use mathlib.Core.Bool.{Bool, true, false, _&&_}
+use mathlib.Core.List.{List, [], _∷_, _++_}
+use mathlib.Core.Option.{Option, none, some}
+use lib.Dec.{eqb}
+use Rattle.model.specs.declared.Verdict.the-variants.{New}
+use Rattle.model.specs.declared.Answer.{Answer}
+use Rattle.model.specs.declared.Answer.the-variants.{Said}
+use Rattle.model.specs.Settings.{settings-of}
+use Rattle.model.specs.Generation.{as-read}
+use Rattle.model.specs.Calls.{Manner, judged, judged-batch, taken, taken-batch, Asking, Deed, Ticket, ContainsHash, Begin, Sweep, DumpTo, Restore, Resume, Floor, Pending, SweptBucket, Call, Open, On, Expire, SetLimits, Close, HeldBy, ClassTotals, register-at, held-in}
+use Rattle.model.specs.View.{Given, answered, left-by}
+use Rattle.model.specs.Soundness.{went-through, Vetted}
+
+-- a ticket on a register; the fingerprint as it is read
+pub record Strike : Type 0 where
+  pub register : ℕ
+  pub print : ℕ
+  pub stamp : ℕ
+
+-- ---- calls, sorted once
+pub data Kind : Type 0 where
+  -- judge and judge_batch; take and take_batch
+  Asks Takes : Strike → Kind
+  -- an opening; a restore or resume on a register
+  Opens : Kind
+  Remakes : ℕ → Kind
+  -- any other
+  Other : Kind
+
+abbrev pub strike-of : ℕ → Asking → Strike
+strike-of r a = record { register = r; print = as-read (a .fp); stamp = a .stamp }
+
+unfoldable pub manner-kind : Manner → Strike → Kind
+manner-kind judged t = Asks t
+manner-kind judged-batch t = Asks t
+manner-kind taken t = Takes t
+manner-kind taken-batch t = Takes t
+
+unfoldable pub deed-kind : ℕ → Deed → Kind
+deed-kind r (Ticket m a) = manner-kind m (strike-of r a)
+deed-kind r (ContainsHash fp) = Other
+deed-kind r (Begin number) = Other
+deed-kind r (Sweep ms) = Other
+deed-kind r (DumpTo out) = Other
+deed-kind r (Restore bytes) = Remakes r
+deed-kind r (Resume bytes flag floor) = Remakes r
+deed-kind r Floor = Other
+deed-kind r Pending = Other
+deed-kind r SweptBucket = Other
+
+unfoldable pub kind : Call → Kind
+kind (Open limits starts) = Opens
+kind (On r d) = deed-kind r d
+kind (Expire ms) = Other
+kind (SetLimits limits) = Other
+kind Close = Other
+kind (HeldBy k number) = Other
+kind (ClassTotals c) = Other
+
+unfoldable pub asks-about : Kind → Option Strike
+asks-about (Asks t) = some t
+asks-about (Takes t) = some t
+asks-about Opens = none
+asks-about (Remakes r) = none
+asks-about Other = none
+
+unfoldable pub takes : Kind → Option Strike
+takes (Asks t) = none
+takes (Takes t) = some t
+takes Opens = none
+takes (Remakes r) = none
+takes Other = none
+
+unfoldable pub remakes : ℕ → Kind → Bool
+remakes r (Asks t) = false
+remakes r (Takes t) = false
+remakes r Opens = true
+remakes r (Remakes q) = eqb r q
+remakes r Other = false
+
+-- ---- what is seen of a list, moment by moment: a call with its answer, or that other words were put in place of these
+pub data Moment : Type 0 where
+  Answered : Call → Answer → Moment
+  Replacement : Moment
+
+-- a take or a take_batch answered New for the ticket
+abbrev pub Accepted : Strike → Moment → Type 0
+Accepted t (Answered c a) = (takes (kind c) ≡ some t) × (a ≡ Said New)
+Accepted t Replacement = ⊥
+
+-- a judge, a take or one of their batch forms answered New for the ticket
+abbrev pub CalledNew : Strike → Moment → Type 0
+CalledNew t (Answered c a) = (asks-about (kind c) ≡ some t) × (a ≡ Said New)
+CalledNew t Replacement = ⊥
+
+-- an opening, or a restore or resume on register r, went through
+abbrev pub remade : ℕ → Moment → Bool
+remade r (Answered c a) = remakes r (kind c) && went-through a
+remade r Replacement = true
+
+abbrev pub unless : Bool → Type 0 → Type 0
+unless true X = Unit {0}
+unless false X = X
+
+-- no moment calls the ticket New, up to one that remakes its register
+abbrev pub Never : Strike → List Moment → Type 0
+Never t [] = Unit {0}
+Never t (m ∷ ms) = unless (remade (t .register) m) ((CalledNew t m → ⊥) × Never t ms)
+
+-- so after every moment that accepts a ticket on register r
+abbrev pub Once : ℕ → List Moment → Type 0
+Once r [] = Unit {0}
+Once r (m ∷ ms) = ((t : Strike) → t .register ≡ r → Accepted t m → Never t ms) × Once r ms
+
+-- ---- lists of calls
+unfoldable pub moments : List ℕ → List Given → List Moment
+moments ws [] = []
+moments ws (g ∷ gs) = Answered (g .call) (answered ws g) ∷ moments (left-by ws g) gs
+
+unfoldable pub left-by-all : List ℕ → List Given → List ℕ
+left-by-all ws [] = ws
+left-by-all ws (g ∷ gs) = left-by-all (left-by ws g) gs
+
+-- THE PROMISE
+abbrev pub NoTicketTwice : Type 0
+NoTicketTwice = (ws : List ℕ) (gs : List Given) (r : ℕ) → Once r (moments ws gs)
+
+-- ---- lists of events, for calls that come later: each says which kind of event it is, and the promise holds among them
+pub data Event : Type 0 where
+  -- it does what these calls do, one after the other
+  Calls : List Given → Event
+  -- like an opening, it puts other words in place of these
+  Replaces : List ℕ → Event
+  -- it leaves these words, and the register's words are as they were
+  Aside : List ℕ → Event
+
+-- where the words are sound afterwards they were so before, and they hold the same register r
+pub record LeavesAlone (r : ℕ) (ws after : List ℕ) : Type 0 where
+  pub was-vetted : (st : List ℕ) → Vetted st after → Vetted st ws
+  pub same : (st : List ℕ) → Vetted st after → register-at r (held-in (settings-of st) after) ≡ register-at r (held-in (settings-of st) ws)
+
+unfoldable pub left-by-event : List ℕ → Event → List ℕ
+left-by-event ws (Calls gs) = left-by-all ws gs
+left-by-event ws (Replaces after) = after
+left-by-event ws (Aside after) = after
+
+unfoldable pub event-moments : List ℕ → Event → List Moment
+event-moments ws (Calls gs) = moments ws gs
+event-moments ws (Replaces after) = Replacement ∷ []
+event-moments ws (Aside after) = []
+
+unfoldable pub all-moments : List ℕ → List Event → List Moment
+all-moments ws [] = []
+all-moments ws (e ∷ es) = event-moments ws e ++ all-moments (left-by-event ws e) es
+
+-- what stands aside leaves register r alone
+abbrev pub AsideOf : ℕ → List ℕ → Event → Type 0
+AsideOf r ws (Calls gs) = Unit {0}
+AsideOf r ws (Replaces after) = Unit {0}
+AsideOf r ws (Aside after) = LeavesAlone r ws after
+
+abbrev pub AllAside : ℕ → List ℕ → List Event → Type 0
+AllAside r ws [] = Unit {0}
+AllAside r ws (e ∷ es) = AsideOf r ws e × AllAside r (left-by-event ws e) es
+
+-- THE PROMISE, among events
+abbrev pub NoTicketTwiceAmong : Type 0
+NoTicketTwiceAmong = (ws : List ℕ) (es : List Event) (r : ℕ) → AllAside r ws es → Once r (all-moments ws es)
+
+-- the definitions of this file, for a theorem that computes
+unfoldable pub compute-once : ℕ
+unfolding manner-kind deed-kind kind asks-about takes remakes moments left-by-all left-by-event event-moments all-moments
+compute-once = 0

@@ -1,0 +1,30 @@
+-- "Tried in the order 1, 2, 3, 4, 6, 5, 7. Each returns its number alone, alters nothing, and comes only in its condition."
+use Prim.Native.Nat.{ℕ}
+use mathlib.Core.Path.{_≡_}
+use mathlib.Core.Bool.{Bool, true, false}
+use mathlib.Core.List.{List, [], _∷_}
+use mathlib.Core.Logic.{_⊎_}
+use Rattle.model.specs.declared.Answer.{Answer}
+use Rattle.model.specs.declared.Answer.the-variants.{Refused}
+use Rattle.model.specs.Calls.{Call, Refusal, refusals, reply, after, output-of, output-after}
+
+-- n is the number of one whose condition is met, and no earlier one's is
+pub data First (n : ℕ) : List Refusal → Type 0 where
+  here : {x : Refusal} {xs : List Refusal} → x .met ≡ true → x .number ≡ n → First n (x ∷ xs)
+  later : {x : Refusal} {xs : List Refusal} → x .met ≡ false → First n xs → First n (x ∷ xs)
+
+-- no condition is met
+pub data NoneMet : List Refusal → Type 0 where
+  nothing : NoneMet []
+  not-this : {x : Refusal} {xs : List Refusal} → x .met ≡ false → NoneMet xs → NoneMet (x ∷ xs)
+
+-- for settings, words and a call of any content
+pub record Refuses (st ws : List ℕ) (call : Call) : Type 0 where
+  -- a reply is the refusal n exactly when n's condition is met and none earlier is
+  pub only-first : (n : ℕ) → reply st ws call ≡ Refused n → First n (refusals st ws call)
+  pub first-told : (n : ℕ) → First n (refusals st ws call) → reply st ws call ≡ Refused n
+  -- one or the other: a condition is met, or none
+  pub told-or-through : ((n : ℕ) × First n (refusals st ws call)) ⊎ NoneMet (refusals st ws call)
+  -- a refusal leaves all words and bytes
+  pub words-kept : (n : ℕ) → reply st ws call ≡ Refused n → after st ws call ≡ ws
+  pub bytes-kept : (n : ℕ) → reply st ws call ≡ Refused n → output-after st ws call ≡ output-of call

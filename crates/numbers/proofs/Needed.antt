@@ -1,0 +1,113 @@
+-- The words needed, register by register, and that they are few.
+use Prim.Native.Nat.{ℕ, zero, suc, _+_, _-_, _*_, _<_, _≤_}
+use native.Mathlib.Nat.{mul-le-mul, mul-le-mul-left}
+use native.Mathlib.Omega.{arith}
+use mathlib.Core.Path.{_≡_, refl, sym, _∙_, ap}
+use mathlib.Core.Bool.{Bool, true, false, cond, _&&_, _||_}
+use mathlib.Core.List.{List, [], _∷_}
+use lib.Dec.{leb, eqb}
+use borrow.Author.Tests.{leb-true, le-leb, lt-leb, eqb-true}
+use Rattle.runs.proofs.Cases.{by-test, both-true, each-true}
+use Rattle.model.specs.declared.Usable.{Usable}
+use Rattle.model.specs.declared.Shares.{Shares}
+use Rattle.model.specs.declared.Settings.{Settings}
+use Rattle.model.specs.Numbers.{between}
+use Rattle.model.specs.Settings.{ring-of, power-of-two, window-fit, usable-fit, shares-fit, usable-at, fit-at, settings-fit, register-words, registers-words, words-for, book-words, words-needed}
+
+-- ---- bounds that settings in bounds have
+either : (a b : Bool) {P : Type 0} → (a || b) ≡ true → (a ≡ true → P) → (b ≡ true → P) → P
+either true b e f g = f refl
+either false b e f g = g e
+
+pub slots-few : (n : ℕ) → power-of-two n ≡ true → n ≤ 1_024
+unfolding power-of-two
+slots-few n t =
+    either _ _ t (λ e. let k = eqb-true n 2 e in omega arith) λ t. either _ _ t (λ e. let k = eqb-true n 4 e in omega arith) λ t.
+    either _ _ t (λ e. let k = eqb-true n 8 e in omega arith) λ t. either _ _ t (λ e. let k = eqb-true n 16 e in omega arith) λ t.
+    either _ _ t (λ e. let k = eqb-true n 32 e in omega arith) λ t. either _ _ t (λ e. let k = eqb-true n 64 e in omega arith) λ t.
+    either _ _ t (λ e. let k = eqb-true n 128 e in omega arith) λ t. either _ _ t (λ e. let k = eqb-true n 256 e in omega arith) λ t.
+    either _ _ t (λ e. let k = eqb-true n 512 e in omega arith) λ t. let k = eqb-true n 1_024 t in omega arith
+
+-- one register's
+pub record Few (u : Usable) : Type 0 where
+  pub ring : ring-of u ≤ 256
+  pub slots : u .slots ≤ 1_024
+  pub words : 3 * ring-of u * (u .slots + 4) ≤ 789_504
+
+pub usable-few : (u : Usable) → usable-fit u ≡ true → Few u
+unfolding usable-fit
+usable-few u fit =
+    let p = each-true (window-fit (u .origin)) (window-fit (u .copy) ∷ between 1 60_000 (u .bucket) ∷ power-of-two (u .slots) ∷ leb (ring-of u) 256 ∷ []) fit in
+    let r = leb-true (ring-of u) 256 (p .1 .1 .1 .1) in
+    let k = slots-few (u .slots) (p .1 .1 .1 .0) in
+    let a : 3 * ring-of u ≤ 768 = omega arith in
+    let b : u .slots + 4 ≤ 1_028 = omega arith in
+    record { ring = r; slots = k; words = let m = mul-le-mul a b in omega (arith, m) }
+
+-- the book's
+pub record FewPlaces (b : Shares) : Type 0 where
+  pub places : b .places ≤ 64
+  pub pairs : b .pairs ≤ 512
+  pub words : 3 * (b .places) * (2 * (b .pairs) + 4) ≤ 197_376
+
+pub shares-few : (b : Shares) → shares-fit b ≡ true → FewPlaces b
+unfolding shares-fit
+shares-few b fit =
+    let p = each-true (between 1 64 (b .places)) (between 2 512 (b .pairs) ∷ leb (b .feeder) 4_096 ∷ leb (b .peer) 4_096 ∷ []) fit in
+    let q = both-true (leb 1 (b .places)) (leb (b .places) 64) (p .0) in
+    let r = both-true (leb 2 (b .pairs)) (leb (b .pairs) 512) (p .1 .0) in
+    let x = leb-true (b .places) 64 (q .1) in
+    let y = leb-true (b .pairs) 512 (r .1) in
+    let u : 3 * (b .places) ≤ 192 = omega arith in
+    let v : 2 * (b .pairs) + 4 ≤ 1_028 = omega arith in
+    record { places = x; pairs = y; words = let m = mul-le-mul u v in omega (arith, m) }
+
+-- ---- the sum over R registers, as the sum over four of which those not below R have none
+one : (s : Settings) (r : ℕ) → fit-at s r ≡ true → r < s .registers → words-for s r ≡ register-words (usable-at s r)
+one s r f h = let e = lt-leb (s .registers) r h in rw (e, rw e at f)
+
+past : (s : Settings) (r : ℕ) → s .registers ≤ r → words-for s r ≡ 0
+past s r h = rw (le-leb (s .registers) r h)
+
+module _ (s : Settings) (f0 : fit-at s 0 ≡ true) (f1 : fit-at s 1 ≡ true) (f2 : fit-at s 2 ≡ true) (f3 : fit-at s 3 ≡ true) where
+  sum-of : (n : ℕ) → n ≡ s .registers → n ≤ 4 → words-for s 0 + words-for s 1 + words-for s 2 + words-for s 3 ≡ registers-words s 0 n
+  unfolding registers-words
+  sum-of zero e h =
+      omega (arith, past s 0 (omega arith), past s 1 (omega arith), past s 2 (omega arith), past s 3 (omega arith))
+  sum-of (suc zero) e h =
+      omega (arith, one s 0 f0 (omega arith), past s 1 (omega arith), past s 2 (omega arith), past s 3 (omega arith))
+  sum-of (suc (suc zero)) e h =
+      omega (arith, one s 0 f0 (omega arith), one s 1 f1 (omega arith), past s 2 (omega arith), past s 3 (omega arith))
+  sum-of (suc (suc (suc zero))) e h =
+      omega (arith, one s 0 f0 (omega arith), one s 1 f1 (omega arith), one s 2 f2 (omega arith), past s 3 (omega arith))
+  sum-of (suc (suc (suc (suc zero)))) e h =
+      omega (arith, one s 0 f0 (omega arith), one s 1 f1 (omega arith), one s 2 f2 (omega arith), one s 3 f3 (omega arith))
+  sum-of (suc (suc (suc (suc (suc n))))) e h = absurd (omega arith)
+
+pub needed-is : (s : Settings) → settings-fit s ≡ true → (book : ℕ) → book ≡ cond (shares-fit (s .shares)) (book-words (s .shares)) 0
+    → words-for s 0 + words-for s 1 + words-for s 2 + words-for s 3 + book + 128 ≡ words-needed s
+unfolding settings-fit words-needed
+needed-is s fit book b =
+    let p = each-true (between 1 4 (s .registers)) (shares-fit (s .shares) ∷ fit-at s 0 ∷ fit-at s 1 ∷ fit-at s 2 ∷ fit-at s 3 ∷ []) fit in
+    let q = both-true (leb 1 (s .registers)) (leb (s .registers) 4) (p .0) in
+    let e = sum-of s (p .1 .1 .0) (p .1 .1 .1 .0) (p .1 .1 .1 .1 .0) (p .1 .1 .1 .1 .1) (s .registers) refl (leb-true (s .registers) 4 (q .1)) in
+    let g : book ≡ book-words (s .shares) = rw (p .1 .0) at b in
+    omega arith
+
+-- ---- as the code has it: the test's answer, and what it then computes
+module _ (u : Usable) (ok : Bool) (e : ok ≡ usable-fit u) where
+  pub register-none : ok ≡ false → (0 ≡ cond (usable-fit u) (register-words u) 0) × (0 ≤ 789_504)
+  register-none f = let k : usable-fit u ≡ false = sym e ∙ f in (rw k, omega arith)
+
+  pub register-some : ok ≡ true → (ring : ℕ) → ring ≡ ring-of u
+      → (3 * ring * (u .slots + 4) ≡ cond (usable-fit u) (register-words u) 0) × (3 * ring * (u .slots + 4) ≤ 789_504)
+  unfolding register-words
+  register-some t ring r = let k : usable-fit u ≡ true = sym e ∙ t in (rw (k, r), rw r (usable-few u k .words))
+
+module _ (b : Shares) (ok : Bool) (e : ok ≡ shares-fit b) where
+  pub book-none : ok ≡ false → (0 ≡ cond (shares-fit b) (book-words b) 0) × (0 ≤ 197_376)
+  book-none f = let k : shares-fit b ≡ false = sym e ∙ f in (rw k, omega arith)
+
+  pub book-some : ok ≡ true → (3 * (b .places) * (2 * (b .pairs) + 4) ≡ cond (shares-fit b) (book-words b) 0) × (3 * (b .places) * (2 * (b .pairs) + 4) ≤ 197_376)
+  unfolding book-words
+  book-some t = let k : shares-fit b ≡ true = sym e ∙ t in (rw k, shares-few b k .words)

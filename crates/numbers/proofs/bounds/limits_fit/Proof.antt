@@ -1,0 +1,14 @@
+use mathlib.Core.Path.{refl}
+use Rattle.model.specs.Settings.{limits-fit}
+use Rattle.numbers.proofs.bounds.limits_fit.Statement.{statement}
+use Rattle.numbers.proofs.bounds.limits_fit.Tie as tie
+use Rattle.numbers.proofs.bounds.limits_fit.Reads as reads
+use Rattle.numbers.proofs.bounds.limits_fit.Lts as lts
+
+-- src/bounds.rt:130:1
+returns : tie.Need-returns
+unfolding limits-fit
+returns c = refl
+
+pub limits-fit-spec : {M : Type 1} → statement M
+limits-fit-spec = tie.close (tie.spec returns)

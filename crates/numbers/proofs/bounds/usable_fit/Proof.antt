@@ -1,0 +1,40 @@
+use Rattle.model.specs.Settings.{usable-fit}
+use borrow.Author.Needs.{needs}
+use Rattle.numbers.proofs.bounds.usable_fit.Statement.{statement}
+use Rattle.numbers.proofs.bounds.usable_fit.Tie as tie
+use Rattle.numbers.proofs.bounds.usable_fit.Reads as reads
+use Rattle.numbers.proofs.bounds.usable_fit.Lts as lts
+use Rattle.numbers.proofs.bounds.is_power_of_two.Reads as is-power-of-two-reads
+use Rattle.numbers.proofs.bounds.window_fit.Reads as window-fit-reads
+use Rattle.numbers.proofs.spans.ring_of.Reads as ring-of-reads
+
+-- src/bounds.rt:116:9
+window-fit-requires : tie.Need-window-fit-requires
+window-fit-requires c κs = search needs
+
+-- src/bounds.rt:117:9
+window-fit-requires-2 : tie.Need-window-fit-requires-2
+window-fit-requires-2 c κs = search needs
+
+-- src/bounds.rt:118:9
+is-power-of-two-requires : tie.Need-is-power-of-two-requires
+is-power-of-two-requires c κs = search needs
+
+-- src/bounds.rt:119:9
+ring-of-requires : tie.Need-ring-of-requires
+ring-of-requires c κs = search needs
+
+-- src/bounds.rt:113:1
+returns : tie.Need-returns
+unfolding usable-fit
+returns c = rw (c .before .before .ring-of .ensures, c .before .before .before .is-power-of-two .ensures, c .before .before .before .before .window-fit2 .ensures, c .before .before .before .before .before .window-fit .ensures)
+
+pub usable-fit-spec : {M : Type 1} → statement M
+usable-fit-spec =
+    tie.close
+    (tie.spec
+    window-fit-requires
+    window-fit-requires-2
+    is-power-of-two-requires
+    ring-of-requires
+    returns)

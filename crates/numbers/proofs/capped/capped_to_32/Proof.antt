@@ -1,0 +1,19 @@
+use native.Mathlib.Omega.{arith}
+use Rattle.model.specs.Numbers.{cap32}
+use Rattle.numbers.proofs.capped.capped_to_32.Statement.{statement}
+use Rattle.numbers.proofs.capped.capped_to_32.Tie as tie
+use Rattle.numbers.proofs.capped.capped_to_32.Reads as reads
+use Rattle.numbers.proofs.capped.capped_to_32.Lts as lts
+
+-- src/capped.rt:34:9
+returns : tie.Need-returns
+unfolding cap32
+returns c = omega arith
+
+-- src/capped.rt:30:1
+returns-2 : tie.Need-returns-2
+unfolding cap32
+returns-2 c = omega arith
+
+pub capped-to-32-spec : {M : Type 1} → statement M
+capped-to-32-spec = tie.close (tie.spec returns returns-2)

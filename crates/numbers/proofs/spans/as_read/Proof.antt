@@ -1,0 +1,19 @@
+use Rattle.model.specs.Generation.{as-read}
+use borrow.Author.Needs.{needs}
+use Rattle.numbers.proofs.spans.as_read.Statement.{statement}
+use Rattle.numbers.proofs.spans.as_read.Tie as tie
+use Rattle.numbers.proofs.spans.as_read.Reads as reads
+use Rattle.numbers.proofs.spans.as_read.Lts as lts
+use Rattle.numbers.proofs.capped.larger.Reads as larger-reads
+
+-- src/spans.rt:102:5
+larger-requires : tie.Need-larger-requires
+larger-requires c κs = search needs
+
+-- src/spans.rt:99:1
+returns : tie.Need-returns
+unfolding as-read
+returns c = c .larger .ensures
+
+pub as-read-spec : {M : Type 1} → statement M
+as-read-spec = tie.close (tie.spec larger-requires returns)

@@ -1,0 +1,30 @@
+use Rattle.model.specs.Judge.{bucket-of}
+use borrow.Author.Needs.{needs}
+use Rattle.numbers.proofs.spans.bucket_of.Statement.{statement}
+use Rattle.numbers.proofs.spans.bucket_of.Tie as tie
+use Rattle.numbers.proofs.spans.bucket_of.Reads as reads
+use Rattle.numbers.proofs.spans.bucket_of.Lts as lts
+use Rattle.numbers.proofs.capped.capped_add.Reads as capped-add-reads
+use Rattle.numbers.proofs.capped.ceil_div.Reads as ceil-div-reads
+use Rattle.numbers.proofs.spans.retained.Reads as retained-reads
+
+-- src/spans.rt:37:57
+retained-requires : tie.Need-retained-requires
+retained-requires c κs = search needs
+
+-- src/spans.rt:37:30
+capped-add-requires : tie.Need-capped-add-requires
+capped-add-requires c κs = search needs
+
+-- src/spans.rt:37:12
+ceil-div-requires : tie.Need-ceil-div-requires
+ceil-div-requires c κs = search needs
+
+-- src/spans.rt:34:1
+returns : tie.Need-returns
+unfolding bucket-of
+returns c = rw (c .ceil-div .ensures, c .before .capped-add .ensures, c .before .before .retained .ensures)
+
+pub bucket-of-spec : {M : Type 1} → statement M
+bucket-of-spec =
+    tie.close (tie.spec retained-requires capped-add-requires ceil-div-requires returns)

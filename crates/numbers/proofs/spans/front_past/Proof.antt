@@ -1,0 +1,21 @@
+use Rattle.numbers.proofs.Arithmetic.{front-not, front-by}
+use borrow.Author.Needs.{needs}
+use Rattle.numbers.proofs.spans.front_past.Statement.{statement}
+use Rattle.numbers.proofs.spans.front_past.Tie as tie
+use Rattle.numbers.proofs.spans.front_past.Reads as reads
+use Rattle.numbers.proofs.spans.front_past.Lts as lts
+
+-- src/spans.rt:93:9
+returns : tie.Need-returns
+returns c = front-not (c .before .args .w) (c .before .args .stamp) ((c .before .args .now) .0) (c .if1 .taken)
+
+-- src/spans.rt:95:15
+sub-result : tie.Need-sub-result
+sub-result c = search needs
+
+-- src/spans.rt:88:1
+returns-2 : tie.Need-returns-2
+returns-2 c = front-by (c .before .before .args .w) (c .before .before .args .stamp) ((c .before .before .args .now) .0) (c .before .if1 .left)
+
+pub front-past-spec : {M : Type 1} → statement M
+front-past-spec = tie.close (tie.spec returns sub-result returns-2)

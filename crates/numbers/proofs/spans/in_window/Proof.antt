@@ -1,0 +1,21 @@
+use Rattle.numbers.proofs.Arithmetic.{window-behind, window-ahead}
+use borrow.Author.Needs.{needs}
+use Rattle.numbers.proofs.spans.in_window.Statement.{statement}
+use Rattle.numbers.proofs.spans.in_window.Tie as tie
+use Rattle.numbers.proofs.spans.in_window.Reads as reads
+use Rattle.numbers.proofs.spans.in_window.Lts as lts
+
+-- src/spans.rt:82:9
+returns : tie.Need-returns
+returns c = window-behind (c .before .before .args .w) (c .before .before .args .stamp) ((c .before .before .args .now) .0) (c .before .if1 .taken)
+
+-- src/spans.rt:84:5
+sub-result : tie.Need-sub-result
+sub-result c = search needs
+
+-- src/spans.rt:77:1
+returns-2 : tie.Need-returns-2
+returns-2 c = window-ahead (c .before .before .args .w) (c .before .before .args .stamp) ((c .before .before .args .now) .0) (c .before .if1 .left)
+
+pub in-window-spec : {M : Type 1} → statement M
+in-window-spec = tie.close (tie.spec returns sub-result returns-2)

@@ -1,0 +1,19 @@
+use Rattle.model.specs.Register.{published}
+use borrow.Author.Needs.{needs}
+use Rattle.numbers.proofs.spans.published.Statement.{statement}
+use Rattle.numbers.proofs.spans.published.Tie as tie
+use Rattle.numbers.proofs.spans.published.Reads as reads
+use Rattle.numbers.proofs.spans.published.Lts as lts
+use Rattle.numbers.proofs.capped.capped_mul.Reads as capped-mul-reads
+
+-- src/spans.rt:51:12
+capped-mul-requires : tie.Need-capped-mul-requires
+capped-mul-requires c κs = search needs
+
+-- src/spans.rt:48:1
+returns : tie.Need-returns
+unfolding published
+returns c = c .capped-mul .ensures
+
+pub published-spec : {M : Type 1} → statement M
+published-spec = tie.close (tie.spec capped-mul-requires returns)

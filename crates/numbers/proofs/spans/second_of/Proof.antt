@@ -1,0 +1,30 @@
+use Rattle.model.specs.Book.{second-of}
+use borrow.Author.Needs.{needs}
+use Rattle.numbers.proofs.spans.second_of.Statement.{statement}
+use Rattle.numbers.proofs.spans.second_of.Tie as tie
+use Rattle.numbers.proofs.spans.second_of.Reads as reads
+use Rattle.numbers.proofs.spans.second_of.Lts as lts
+use Rattle.numbers.proofs.capped.capped_mul.Reads as capped-mul-reads
+use Rattle.numbers.proofs.capped.capped_to_32.Reads as capped-to-32-reads
+use Rattle.numbers.proofs.capped.ceil_div.Reads as ceil-div-reads
+
+-- src/spans.rt:59:9
+capped-mul-requires : tie.Need-capped-mul-requires
+capped-mul-requires c κs = search needs
+
+-- src/spans.rt:58:34
+ceil-div-requires : tie.Need-ceil-div-requires
+ceil-div-requires c κs = search needs
+
+-- src/spans.rt:58:12
+capped-to-32-requires : tie.Need-capped-to-32-requires
+capped-to-32-requires c κs = search needs
+
+-- src/spans.rt:55:1
+returns : tie.Need-returns
+unfolding second-of
+returns c = rw (c .capped-to-32 .ensures, c .before .ceil-div .ensures, c .before .before .capped-mul .ensures)
+
+pub second-of-spec : {M : Type 1} → statement M
+second-of-spec =
+    tie.close (tie.spec capped-mul-requires ceil-div-requires capped-to-32-requires returns)

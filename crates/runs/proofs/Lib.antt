@@ -1,0 +1,10 @@
+pub mod Cases
+pub mod Words
+pub mod Loops
+pub mod Firsts
+pub mod Chunks
+pub mod Each
+pub mod Exact
+pub mod Parts
+pub mod Turns
+pub mod Walk

@@ -1,0 +1,5 @@
+pub mod Words
+pub mod Chunks
+pub mod Form
+pub mod Combine
+pub mod Turns

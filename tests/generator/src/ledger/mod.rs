@@ -1,0 +1,281 @@
+//! An account of its own of what the calls of a list did, kept from their arguments and verdicts
+//! by document 01's rules, and held against every answer.
+//!
+//! - **Once.** A ticket that take answered New is never New again on its register, up to an
+//!   opening, or a restore or resume on that register, that went through.
+//! - **Equal part.** A party within its equal part is never turned away (`modest`).
+//! - **Entries** are counted here, draw by draw, and compared with what the machine says.
+//!
+//! The ledger keeps no floor, no newest stamps and no slots: Late and Ahead, and the order within
+//! a dump, are left to the comparison of two machines.
+
+mod shares;
+mod table;
+
+use std::collections::HashSet;
+
+use calls::call::Ticket;
+use calls::{Answer, Call, Form, Start, Verdict};
+
+use crate::dump::{self, Dump};
+pub use shares::Cause;
+use shares::{Draw, Shares};
+use table::Table;
+
+/// What a call showed, beside its answer.
+#[derive(Default)]
+pub struct Noted {
+    /// Why a take was Full.
+    pub cause: Option<Cause>,
+    /// A take that judge would have called New was Late, for its position was taken.
+    pub clash: bool,
+    /// A ticket struck before was asked for again.
+    pub struck: bool,
+    /// The equal part's promise was due.
+    pub modest: bool,
+}
+
+#[derive(Default)]
+pub struct Ledger {
+    shares: Shares,
+    tables: Vec<Table>,
+    /// For each register, the tickets that take answered New.
+    struck: Vec<HashSet<(u64, u64)>>,
+}
+
+type Seen = Result<Noted, String>;
+
+fn must(holds: bool, why: impl FnOnce() -> String) -> Result<(), String> {
+    if holds { Ok(()) } else { Err(why()) }
+}
+
+fn plain(holds: bool, why: impl FnOnce() -> String) -> Seen {
+    must(holds, why).map(|()| Noted::default())
+}
+
+impl Ledger {
+    /// Enters a call and its answer. `again` runs a further call on the same machine.
+    pub fn saw(
+        &mut self,
+        call: &Call,
+        answer: &Answer,
+        again: impl FnMut(&Call) -> Answer,
+    ) -> Seen {
+        match (call, answer) {
+            (_, Answer::Broke) => Err("the machine broke down".into()),
+            (_, Answer::Refused(_) | Answer::Apart) => Ok(Noted::default()),
+            (Call::Open { settings, starts }, _) => {
+                let pending = |start: &Start| matches!(start, Start::Fallback | Start::Code(1, _));
+                self.shares = Shares::open(settings);
+                let starts = settings.windows.iter().zip(starts);
+                self.tables = starts
+                    .map(|(windows, start)| Table::open(*windows, pending(start)))
+                    .collect();
+                self.struck = vec![HashSet::new(); self.tables.len()];
+                Ok(Noted::default())
+            }
+            (Call::Ask { form, ticket }, Answer::Verdict(verdict)) => {
+                self.asked(*form, ticket, *verdict, again)
+            }
+            (Call::Begin { register, .. }, _) => {
+                let pending = std::mem::take(&mut self.tables[*register as usize].pending);
+                plain(pending == (*answer == Answer::Begun), || {
+                    format!("pending was {pending}")
+                })
+            }
+            (Call::Sweep { register, reading }, _) => {
+                self.tables[*register as usize].sweep(*reading);
+                Ok(Noted::default())
+            }
+            (Call::Expire { reading }, _) => {
+                let least = self.tables.iter().map(Table::published).min();
+                self.shares
+                    .expire(least.map_or(*reading, |least| least.min(*reading)));
+                Ok(Noted::default())
+            }
+            (Call::Limits(limits), _) => {
+                self.shares.set(*limits);
+                Ok(Noted::default())
+            }
+            (Call::Close, _) => {
+                self.shares.closed = true;
+                Ok(Noted::default())
+            }
+            (
+                Call::Restore { register, bytes }
+                | Call::Resume {
+                    register, bytes, ..
+                },
+                _,
+            ) => self.restored(*register as usize, bytes, answer),
+            _ => self.looked(call, answer),
+        }
+    }
+
+    /// A ticket judged or taken.
+    fn asked(
+        &mut self,
+        form: Form,
+        ticket: &Ticket,
+        verdict: Verdict,
+        again: impl FnMut(&Call) -> Answer,
+    ) -> Seen {
+        let table = &mut self.tables[ticket.register as usize];
+        let judges = !table.pending && ticket.flag == 1;
+        must(judges == (verdict != Verdict::Unjudged), || {
+            format!("judges is {judges}")
+        })?;
+        if !judges {
+            return Ok(Noted::default());
+        }
+        table.sweep(ticket.reading);
+        let fingerprint = ticket.fingerprint.max(1);
+        let held = table.holds(fingerprint, ticket.stamp);
+        must(held == (verdict == Verdict::Duplicate), || {
+            format!("held is {held}")
+        })?;
+        let struck = self.struck[ticket.register as usize].contains(&(fingerprint, ticket.stamp));
+        must(!(struck && verdict == Verdict::New), || {
+            "New a second time".into()
+        })?;
+        let mut noted = Noted {
+            struck,
+            ..Noted::default()
+        };
+        if form.takes() && would_be_new(verdict, ticket, again) {
+            self.taken(ticket, verdict, &mut noted)?;
+        }
+        Ok(noted)
+    }
+
+    /// A take whose ticket judge would answer New.
+    fn taken(
+        &mut self,
+        ticket: &Ticket,
+        verdict: Verdict,
+        noted: &mut Noted,
+    ) -> Result<(), String> {
+        let who = ticket.who.listed().expect("not refused");
+        let table = &mut self.tables[ticket.register as usize];
+        let bucket = table.windows.bucket_of(ticket.stamp);
+        let draw = Draw {
+            who,
+            second: table.second_of(bucket),
+        };
+        let clash = table.clashes(who.class(), bucket);
+        let crowded = table.crowded(who.class(), bucket);
+        noted.modest = !crowded && self.shares.modest(&draw);
+        let promised = if clash { Verdict::Late } else { Verdict::New };
+        must(!noted.modest || verdict == promised, || {
+            format!("a modest party is owed {promised}")
+        })?;
+        let refused = self.shares.refuses(&draw);
+        let (due, cause) = match (refused, clash, crowded) {
+            (Some(cause), _, _) => (Verdict::Full, Some(cause)),
+            (None, true, _) => (Verdict::Late, None),
+            (None, false, true) => (Verdict::Full, Some(Cause::Slots)),
+            (None, false, false) => (Verdict::New, None),
+        };
+        must(verdict == due, || format!("{due} is due, {cause:?}"))?;
+        noted.cause = cause;
+        noted.clash = due == Verdict::Late;
+        if due == Verdict::New {
+            self.shares.enter(&draw);
+            table.insert(who.class(), bucket, ticket.fingerprint.max(1));
+            self.struck[ticket.register as usize].insert((ticket.fingerprint.max(1), ticket.stamp));
+        }
+        Ok(())
+    }
+
+    /// A dump restored or resumed: every listed fingerprint draws, and at a generation's first
+    /// failure its draws go back and its bucket is dropped.
+    fn restored(&mut self, register: usize, bytes: &[u8], answer: &Answer) -> Seen {
+        let Some((dump, read)) = dump::read(bytes) else {
+            return Err("the dump is cut short".into());
+        };
+        self.struck[register].clear();
+        let whole = self.enter(register, &dump);
+        let due = if whole {
+            Answer::Whole(read)
+        } else {
+            Answer::Partly(read)
+        };
+        plain(*answer == due, || format!("{due} is due"))
+    }
+
+    fn enter(&mut self, register: usize, dump: &Dump) -> bool {
+        let table = &mut self.tables[register];
+        let mut whole = true;
+        for (class, generations) in dump.classes.iter().enumerate() {
+            for listed in generations {
+                let draw = Draw {
+                    who: calls::Who::Restored(class as u64),
+                    second: table.second_of(listed.bucket),
+                };
+                let mut drawn = 0;
+                let fits = listed.fingerprints.iter().all(|fingerprint| {
+                    if self.shares.refuses(&draw).is_some() {
+                        return false;
+                    }
+                    self.shares.enter(&draw);
+                    drawn += 1;
+                    if table.clashes(class, listed.bucket) || table.crowded(class, listed.bucket) {
+                        return false;
+                    }
+                    table.insert(class, listed.bucket, (*fingerprint).max(1));
+                    true
+                });
+                if !fits {
+                    whole = false;
+                    (0..drawn).for_each(|_| self.shares.give_back(&draw));
+                    table.drop_bucket(class, listed.bucket);
+                }
+            }
+        }
+        whole
+    }
+
+    /// A call that only looks.
+    fn looked(&self, call: &Call, answer: &Answer) -> Seen {
+        let table = |register: u64| &self.tables[register as usize];
+        let due = match call {
+            Call::ContainsHash {
+                register,
+                fingerprint,
+            } => Answer::Whether(table(*register).holds_anywhere((*fingerprint).max(1))),
+            Call::Pending { register } => Answer::Whether(table(*register).pending),
+            Call::Swept { register } => {
+                let table = table(*register);
+                Answer::Swept {
+                    bucket: table.swept,
+                    published: table.published(),
+                }
+            }
+            Call::Held { who } => {
+                Answer::Entries(self.shares.held(who.listed().expect("not refused")))
+            }
+            Call::Class { class } => self.shares.class(*class as usize),
+            Call::Dump { register, .. } => {
+                return table(*register).dumped(answer).map(|()| Noted::default());
+            }
+            _ => return Ok(Noted::default()),
+        };
+        plain(*answer == due, || format!("{due} is due"))
+    }
+}
+
+/// Whether judge would answer New to a take's ticket: a Late take may be either, and the machine
+/// is asked again, which alters nothing that the take's own judging did not.
+fn would_be_new(verdict: Verdict, ticket: &Ticket, mut again: impl FnMut(&Call) -> Answer) -> bool {
+    match verdict {
+        Verdict::New | Verdict::Full => true,
+        Verdict::Late => {
+            let judge = Call::Ask {
+                form: Form::Judge,
+                ticket: *ticket,
+            };
+            again(&judge) == Answer::Verdict(Verdict::New)
+        }
+        _ => false,
+    }
+}

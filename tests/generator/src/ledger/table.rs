@@ -1,0 +1,154 @@
+//! What one register holds: for each class and position a bucket and its fingerprints.
+
+use std::collections::{BTreeMap, BTreeSet};
+
+use calls::{Answer, Windows};
+
+use super::shares::second;
+use crate::dump;
+
+struct Generation {
+    bucket: u64,
+    fingerprints: BTreeSet<u64>,
+}
+
+pub struct Table {
+    pub windows: Windows,
+    pub pending: bool,
+    pub swept: u64,
+    /// By position, those that hold something.
+    rings: [BTreeMap<u64, Generation>; 3],
+}
+
+impl Table {
+    pub fn open(windows: Windows, pending: bool) -> Self {
+        Self {
+            windows,
+            pending,
+            swept: 0,
+            rings: Default::default(),
+        }
+    }
+
+    pub fn published(&self) -> u64 {
+        self.swept.saturating_mul(self.windows.bucket)
+    }
+
+    /// The second in which an entry of this bucket expires.
+    pub fn second_of(&self, bucket: u64) -> u64 {
+        second(bucket.saturating_mul(self.windows.bucket))
+    }
+
+    fn position(&self, bucket: u64) -> u64 {
+        bucket % self.windows.ring()
+    }
+
+    pub fn sweep(&mut self, reading: u64) {
+        if self.pending {
+            return;
+        }
+        let through = reading.div_ceil(self.windows.bucket);
+        let from = self.swept.max(through.saturating_sub(self.windows.ring()));
+        for bucket in from..through {
+            let position = self.position(bucket);
+            for ring in &mut self.rings {
+                if ring
+                    .get(&position)
+                    .is_some_and(|held| held.bucket < through)
+                {
+                    ring.remove(&position);
+                }
+            }
+        }
+        self.swept = through;
+    }
+
+    /// Whether any class holds the fingerprint in the stamp's bucket.
+    pub fn holds(&self, fingerprint: u64, stamp: u64) -> bool {
+        let bucket = self.windows.bucket_of(stamp);
+        let at = self.position(bucket);
+        self.rings
+            .iter()
+            .filter_map(|ring| ring.get(&at))
+            .any(|held| held.bucket == bucket && held.fingerprints.contains(&fingerprint))
+    }
+
+    pub fn holds_anywhere(&self, fingerprint: u64) -> bool {
+        self.rings
+            .iter()
+            .flat_map(BTreeMap::values)
+            .any(|held| held.fingerprints.contains(&fingerprint))
+    }
+
+    /// Whether another bucket of the class is held at this one's position.
+    pub fn clashes(&self, class: usize, bucket: u64) -> bool {
+        let held = self.rings[class].get(&self.position(bucket));
+        held.is_some_and(|held| held.bucket != bucket)
+    }
+
+    /// Whether one fingerprint more would need more than S slots.
+    pub fn crowded(&self, class: usize, bucket: u64) -> bool {
+        let held = self.rings[class].get(&self.position(bucket));
+        let held = held.map_or(0, |held| held.fingerprints.len() as u64);
+        4 * (held + 1) > 3 * self.windows.slots
+    }
+
+    pub fn insert(&mut self, class: usize, bucket: u64, fingerprint: u64) {
+        let position = self.position(bucket);
+        let fresh = || Generation {
+            bucket,
+            fingerprints: BTreeSet::new(),
+        };
+        self.rings[class]
+            .entry(position)
+            .or_insert_with(fresh)
+            .fingerprints
+            .insert(fingerprint);
+    }
+
+    pub fn drop_bucket(&mut self, class: usize, bucket: u64) {
+        let position = self.position(bucket);
+        if self.rings[class]
+            .get(&position)
+            .is_some_and(|held| held.bucket == bucket)
+        {
+            self.rings[class].remove(&position);
+        }
+    }
+
+    /// Whether a dump lists, position by position, what is held here, and nothing after it.
+    pub fn dumped(&self, answer: &Answer) -> Result<(), String> {
+        let Answer::Bytes(bytes) = answer else {
+            return Err("a dump answers bytes".into());
+        };
+        let Some((dump, read)) = dump::read(bytes) else {
+            return Err("its own dump is cut short".into());
+        };
+        if read != bytes.len() as u64 {
+            return Err("bytes after the dump".into());
+        }
+        for (ring, listed) in self.rings.iter().zip(&dump.classes) {
+            let held: Vec<_> = ring
+                .values()
+                .map(|held| (held.bucket, held.fingerprints.clone()))
+                .collect();
+            let told: Vec<_> = listed
+                .iter()
+                .map(|one| {
+                    (
+                        one.bucket,
+                        one.fingerprints.iter().copied().collect::<BTreeSet<_>>(),
+                    )
+                })
+                .collect();
+            let once = listed
+                .iter()
+                .zip(&told)
+                .all(|(one, set)| one.fingerprints.len() == set.1.len());
+            if held != told || !once {
+                return Err(format!("held is {held:?}"));
+            }
+        }
+        Ok(())
+    }
+}

@@ -1,0 +1,61 @@
+//! The host's calls beside tickets and dumps.
+
+use calls::Call;
+
+use super::Scene;
+use crate::unfit;
+
+impl Scene {
+    pub(super) fn begin(&mut self) -> Call {
+        let number = match self.random.below(4) {
+            0 if self.random.percent(30) => self.random.pick(&[0, u64::MAX]),
+            _ => self.reading.saturating_sub(self.random.below(5_000)),
+        };
+        Call::Begin {
+            register: self.register(),
+            number,
+        }
+    }
+
+    pub(super) fn tick(&mut self) -> Call {
+        let reading = self.reading;
+        let sweeps = (0..self.settings.registers).map(|register| Call::Sweep { register, reading });
+        self.ahead.extend(sweeps);
+        self.ahead.push_back(Call::Expire { reading });
+        self.ahead.push_back(Call::Class {
+            class: self.random.below(3),
+        });
+        self.ahead.pop_front().expect("a sweep for each register")
+    }
+
+    pub(super) fn expire(&mut self) -> Call {
+        Call::Expire {
+            reading: self.near(self.reading, 20_000),
+        }
+    }
+
+    pub(super) fn sweep(&mut self) -> Call {
+        Call::Sweep {
+            register: self.register(),
+            reading: self.near(self.reading, 20_000),
+        }
+    }
+
+    pub(super) fn look(&mut self) -> Call {
+        let register = self.register();
+        match self.random.below(5) {
+            0 => Call::Floor { register },
+            1 => Call::Pending { register },
+            2 => Call::Swept { register },
+            3 => Call::Held { who: self.who() },
+            _ => Call::Class {
+                class: self.random.below(3),
+            },
+        }
+    }
+
+    pub(super) fn unfit(&mut self) -> Call {
+        let ticket = self.ticket();
+        unfit::call(&self.settings, ticket, &mut self.random)
+    }
+}

@@ -1,0 +1,63 @@
+"""Faults to put into a copy of the patched Rust, to see that the recorded lists notice each.
+
+A fault is a list of edits, each an anchor that must stand in the file exactly once and what
+stands in its place (patch.py puts them in).
+"""
+
+FAULTS = {
+    "no-floor-on-sweep": [
+        ("= held.sweep(from, through) {", "= held.sweep(from, through).filter(|_| false) {"),
+    ],
+    # A party within its equal part is turned away once the class has its limit.
+    "equal-part-ignored": [
+        ("|| (fair", "|| (false && fair"),
+    ],
+    # Parties past their equal part are let in up to twice the limit.
+    "equal-part-untested": [
+        ("&& own_after <= together / holders.max(1)", "&& own_after <= together"),
+    ],
+    "share-not-given-back": [
+        ("fn untake(&self, who: Deliverer, expires_ms: u64) {",
+         "fn untake(&self, who: Deliverer, expires_ms: u64) { if true { return; }"),
+    ],
+    "growth-forgets-one": [
+        ("for held in old.into_iter().filter(|held| *held != 0) {",
+         "for held in old.into_iter().filter(|held| *held != 0).skip(1) {"),
+    ],
+    "restore-keeps-its-draws": [
+        ("for _ in 0..taken {", "for _ in 0..taken * 0 {"),
+    ],
+    "expire-by-the-reading-alone": [
+        ("let through = self.swept_by_all(now);", "let through = now.ms();"),
+    ],
+    "second-rounded-down": [
+        ("expires_ms.div_ceil(1000)", "(expires_ms / 1000)"),
+    ],
+    "newest-not-kept": [
+        ("self.newest_ms = self.newest_ms.max(signed_ms);", "self.newest_ms = signed_ms;"),
+    ],
+    "position-clash-overwritten": [
+        ("generation.bucket != expires && generation.len > 0",
+         "generation.bucket != expires && false"),
+        ("debug_assert!(generation.len == 0);", "generation.drop_all();"),
+    ],
+    "ahead-for-late": [
+        ("Verdict::Late if self.usable.window_for(who)",
+         "Verdict::Late if true || self.usable.window_for(who)"),
+    ],
+    "twice-the-limit-and-one": [
+        ("kind_after <= together.saturating_mul(2)",
+         "kind_after <= together.saturating_mul(2) + 1"),
+    ],
+    "twice-the-limit-less-one": [
+        ("kind_after <= together.saturating_mul(2)", "kind_after < together.saturating_mul(2)"),
+    ],
+    "one-pair-too-many": [
+        ("crate::stage::pairs_used_up(place.expiring.len())",
+         "crate::stage::pairs_used_up(place.expiring.len().saturating_sub(1))"),
+    ],
+    "one-pair-too-few": [
+        ("crate::stage::pairs_used_up(place.expiring.len())",
+         "crate::stage::pairs_used_up(place.expiring.len() + 1)"),
+    ],
+}

@@ -1,0 +1,61 @@
+#!/usr/bin/env python3
+"""Lays a patched copy of strikes.rs beside its stand-ins.
+
+    patch.py SOURCE TARGET [FAULT]
+
+Each edit names its anchor, a text that must stand in the file exactly once; where it does not,
+nothing is written and the build stops. FAULT names one of the faults in faults.py, which is put
+in the same way after the edits.
+"""
+
+import sys
+from pathlib import Path
+
+# What, why, the anchor, and what stands in its place.
+EDITS = [
+    (
+        "place units",
+        "The plan's two place costs are constants; the settings bring them. The Rust's own "
+        "function still says which kind costs which, and its answer is exchanged.",
+        "const fn place_entries(",
+        "fn place_entries(who: Deliverer) -> usize { "
+        "crate::stage::place_units(planned_place_entries(who)) } "
+        "const fn planned_place_entries(",
+    ),
+    (
+        "pairs",
+        "A list of pairs asks for room only when it is full, and its room doubles and shrinks, "
+        "so that E could not refuse at exactly E. Now a list of E asks as well.",
+        "if place.expiring.len() == place.expiring.capacity() {",
+        "if place.expiring.len() == place.expiring.capacity() "
+        "|| crate::stage::pairs_used_up(place.expiring.len()) {",
+    ),
+]
+
+# Appended at the end: a module that reads private fields and alters nothing.
+APPENDED = '\n#[path = "reading.rs"]\npub mod reading;\n'
+
+
+def edited(text, what, anchor, replacement):
+    """The text with its one anchor replaced; stops where there is none or a second one."""
+    found = text.count(anchor)
+    if found != 1:
+        sys.exit(f"patch.py: {what}: the anchor '{anchor}' is there {found} times, not once")
+    return text.replace(anchor, replacement)
+
+
+def main():
+    source, target, fault = Path(sys.argv[1]), Path(sys.argv[2]), sys.argv[3:]
+    text = source.read_text()
+    for what, _, anchor, replacement in EDITS:
+        text = edited(text, what, anchor, replacement)
+    if fault:
+        from faults import FAULTS
+
+        for anchor, replacement in FAULTS[fault[0]]:
+            text = edited(text, fault[0], anchor, replacement)
+    target.write_text(text + APPENDED)
+
+
+if __name__ == "__main__":
+    main()
