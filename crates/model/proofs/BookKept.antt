@@ -1,9 +1,9 @@
 -- The share book stays well formed: through a draw that is granted, a draw given back, and expire. Assumes nothing.
-use Prim.Native.Nat.{ℕ, zero, suc, _≤_, min}
+use Prim.Native.Nat.{ℕ, _≤_}
 use native.Mathlib.Omega.{arith}
 use mathlib.Core.Path.{_≡_, refl, subst}
-use mathlib.Core.Bool.{Bool, true, false, _&&_}
-use mathlib.Core.List.{List, [], _∷_}
+use mathlib.Core.Bool.{true}
+use mathlib.Core.List.{[], _∷_}
 use lib.Dec.{leb}
 use borrow.Author.Tests.{leb-true}
 use Rattle.model.specs.declared.Class.{Class}
@@ -16,10 +16,10 @@ use Rattle.model.specs.declared.Limits.{Limits}
 use Rattle.runs.specs.Form.{Form}
 use Rattle.runs.specs.Combine.{EachOk}
 use Rattle.runs.proofs.Cases.{each-true, no}
-use Rattle.model.specs.Numbers.{top32, between, cap32, cap64, ceil}
+use Rattle.model.specs.Numbers.{top32, between, cap32, ceil}
 use Rattle.model.specs.Settings.{limits-fit, shares-fit}
 use Rattle.model.specs.Class.{class-of, pick, swap}
-use Rattle.model.specs.Book.{Held, Book, entries-in, second-of, granted, places-of, draw-says, drawn, undrawn, enter, give-back, expire, opened-book, closed-book, with-limits}
+use Rattle.model.specs.Book.{Held, Book, entries-in, second-of, granted, draw-says, drawn, undrawn, enter, give-back, expire, opened-book, closed-book, with-limits}
 use Rattle.model.specs.BookWords.{distinct, class-form}
 use Rattle.model.proofs.Choice.{swap-cases}
 use Rattle.model.proofs.Places.{placed, enter-ok, give-back-ok, expire-ok}

@@ -1,18 +1,18 @@
 -- What fit settings say of one register and of the book. Assumes nothing.
-use Prim.Native.Nat.{ℕ, zero, suc, _+_, _≤_, _<_, min}
+use Prim.Native.Nat.{ℕ, zero, suc, _≤_, _<_}
 use native.Mathlib.Omega.{arith}
-use mathlib.Core.Path.{_≡_, refl}
-use mathlib.Core.Bool.{Bool, true, false, cond, _&&_, _||_}
+use mathlib.Core.Path.{_≡_}
+use mathlib.Core.Bool.{Bool, true, false}
 use mathlib.Core.List.{List, [], _∷_}
-use lib.Dec.{leb, eqb}
+use lib.Dec.{leb}
 use borrow.Author.Tests.{leb-true, leb-false, ne-eqb, lt-leb}
 use Rattle.model.specs.declared.Usable.{Usable}
-use Rattle.model.specs.declared.Shares.{Shares}
 use Rattle.model.specs.declared.Settings.{Settings}
 use Rattle.runs.proofs.Cases.{by-test, each-true, no}
 use Rattle.model.specs.Numbers.{between, cap64}
 use Rattle.model.specs.Settings.{ring-of, power-of-two, window-fit, usable-fit, shares-fit, usable-at, fit-at, settings-fit}
 use Rattle.model.proofs.Choice.{or-cases, true-false}
+use Rattle.model.proofs.Words.{registers≤4}
 
 -- a ring has positions
 pub ring-positive : (u : Usable) → 0 < ring-of u
@@ -53,13 +53,4 @@ fit-usable s zero t h = from-fit s 0 (each-true (between 1 4 (s .registers)) (fi
 fit-usable s (suc zero) t h = from-fit s 1 (each-true (between 1 4 (s .registers)) (fits s) t .1 .1 .1 .0) h
 fit-usable s (suc (suc zero)) t h = from-fit s 2 (each-true (between 1 4 (s .registers)) (fits s) t .1 .1 .1 .1 .0) h
 fit-usable s (suc (suc (suc zero))) t h = from-fit s 3 (each-true (between 1 4 (s .registers)) (fits s) t .1 .1 .1 .1 .1) h
-fit-usable s (suc (suc (suc (suc r)))) t h =
-    let p = each-true (leb 1 (s .registers)) (leb (s .registers) 4 ∷ []) (each-true (between 1 4 (s .registers)) (fits s) t .0) in
-    let k = leb-true (s .registers) 4 (p .1) in
-    absurd (omega arith)
-
-pub registers-some : (s : Settings) → settings-fit s ≡ true → (1 ≤ s .registers) × (s .registers ≤ 4)
-unfolding settings-fit
-registers-some s t =
-    let p = each-true (leb 1 (s .registers)) (leb (s .registers) 4 ∷ []) (each-true (between 1 4 (s .registers)) (fits s) t .0) in
-    (leb-true 1 (s .registers) (p .0), leb-true (s .registers) 4 (p .1))
+fit-usable s (suc (suc (suc (suc r)))) t h = absurd (omega (arith, registers≤4 s t))

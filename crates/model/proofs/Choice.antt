@@ -1,8 +1,6 @@
 -- Going by the cases of a disjunction, of a class, and of one class among three. Assumes nothing.
-use Prim.Native.Nat.{ℕ}
-use native.Mathlib.Omega.{arith}
 use mathlib.Core.Path.{_≡_, refl}
-use mathlib.Core.Bool.{Bool, true, false, cond, not, _&&_, _||_}
+use mathlib.Core.Bool.{Bool, true, false, _&&_, _||_}
 use Rattle.model.specs.declared.Class.{Class}
 use Rattle.model.specs.declared.Class.the-variants.{Feeders, Peers, Own}
 use Rattle.runs.proofs.Cases.{no}
@@ -18,6 +16,10 @@ or-right false b p = p
 pub or-cases : (a b : Bool) {Q : Type 0} → (a || b) ≡ true → (a ≡ true → Q) → (b ≡ true → Q) → Q
 or-cases true b p f g = f refl
 or-cases false b p f g = g p
+
+pub or-false : (a b : Bool) → (a || b) ≡ false → (a ≡ false) × (b ≡ false)
+or-false true b p = (p, (cc))
+or-false false b p = (refl, p)
 
 pub and-false : (a b : Bool) {Q : Type 0} → (a && b) ≡ false → (a ≡ false → Q) → (b ≡ false → Q) → Q
 and-false true b p f g = g p

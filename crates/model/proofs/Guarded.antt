@@ -1,31 +1,27 @@
 -- What a state owes to a ticket that was struck: every call but an opening, or a restore or resume on its register, keeps it struck,
 -- none answers New for it, and a take that answers New strikes it. Assumes nothing.
-use Prim.Native.Nat.{ℕ, zero, suc, _≤_, _<_}
-use native.Mathlib.Omega.{arith}
+use Prim.Native.Nat.{ℕ, _<_}
 use mathlib.Core.Path.{_≡_, refl, sym, _∙_, ap, subst}
-use mathlib.Core.Bool.{Bool, true, false, cond}
-use mathlib.Core.List.{List}
+use mathlib.Core.Bool.{false}
 use mathlib.Core.Option.{Option, none, some}
-use lib.Dec.{eqb, leb}
+use lib.Dec.{eqb}
 use lib.ListN.{length, getD, set}
 use lib.Seq.{getD-set-same, getD-set-other}
 use borrow.Author.Tests.{eqb-true, eqb-false, leb-false}
 use Rattle.model.specs.declared.Settings.{Settings}
 use Rattle.model.specs.declared.Verdict.{Verdict}
 use Rattle.model.specs.declared.Verdict.the-variants.{New}
-use Rattle.model.specs.declared.Answer.{Answer}
 use Rattle.model.specs.declared.Answer.the-variants.{Said}
 use Rattle.runs.specs.Form.{Form}
 use Rattle.runs.proofs.Cases.{by-test, no}
-use Rattle.model.specs.Settings.{settings-fit, usable-at}
+use Rattle.model.specs.Settings.{usable-at}
 use Rattle.model.specs.Generation.{as-read}
-use Rattle.model.specs.Book.{Book}
-use Rattle.model.specs.Register.{Register, sweep, begin}
-use Rattle.model.specs.Judge.{bucket-of, judge, judge-batch, take, take-batch}
+use Rattle.model.specs.Register.{Register}
+use Rattle.model.specs.Judge.{bucket-of, judge-batch}
 use Rattle.model.specs.Dump.{Dump, read-dump}
 use Rattle.model.specs.Words.{State, state-form}
 use Rattle.model.specs.Calls.{Manner, judged, judged-batch, taken, taken-batch, Asking, Deed, Ticket, ContainsHash, Begin, Sweep, DumpTo, Restore, Resume, Floor, Pending, SweptBucket, Call, Open, On, Expire, SetLimits, Close, HeldBy, ClassTotals, no-register, register-at, with-register, ask-of, after-judged, after-taken, asked, after-restored, restored, proven-of, resumed, done-on, step, no-such-register}
-use Rattle.model.specs.Once.{Strike, Kind, Asks, Takes, Opens, Remakes, Other, strike-of, manner-kind, deed-kind, kind, asks-about, takes, remakes}
+use Rattle.model.specs.Once.{Strike, strike-of, manner-kind, deed-kind, kind, asks-about, takes, remakes}
 use Rattle.model.proofs.Choice.{true-false}
 use Rattle.model.proofs.Struck.{Struck, struck-sweep}
 use Rattle.model.proofs.RingsKept.{RegisterOk}

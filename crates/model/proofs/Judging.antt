@@ -1,11 +1,10 @@
 -- Judge, take and their batch forms on one register: they leave it well formed, they keep what was struck, a struck ticket is not
 -- New, and New is said only of a ticket that is struck. Assumes nothing.
-use Prim.Native.Nat.{ℕ, _≤_, _<_, max}
+use Prim.Native.Nat.{ℕ, _≤_, _<_}
 use native.Mathlib.Omega.{arith}
 use mathlib.Core.Path.{_≡_, refl}
-use mathlib.Core.Bool.{Bool, true, false, cond, not, _&&_, _||_}
+use mathlib.Core.Bool.{Bool, true, not, _||_}
 use borrow.Author.Tests.{eq-eqb}
-use lib.Dec.{eqb}
 use Rattle.model.specs.declared.Class.{Class}
 use Rattle.model.specs.declared.Class.the-variants.{Feeders, Peers, Own}
 use Rattle.model.specs.declared.Verdict.{Verdict}
@@ -17,15 +16,15 @@ use Rattle.model.specs.declared.Shares.{Shares}
 use Rattle.runs.proofs.Cases.{split-if, no}
 use Rattle.model.specs.Numbers.{under}
 use Rattle.model.specs.Class.{class-of, Each, pick}
-use Rattle.model.specs.Generation.{among, as-read}
-use Rattle.model.specs.Book.{Book, second-of, granted, draw-says, drawn, undrawn}
+use Rattle.model.specs.Generation.{as-read}
+use Rattle.model.specs.Book.{Book, second-of, granted, draw-says}
 use Rattle.model.specs.Register.{Ring, Register, generation-at, holds, any-class, sweep, begin}
 use Rattle.model.specs.Judge.{Ask, bucket-of, window-for, in-window, front-past, unjudged, verdict, Judged, judge, ahead-for, judge-batch, make-room, Taken, take-room, take-share, take-judged, take, take-batch}
 use Rattle.model.proofs.Choice.{or-left, or-right, true-false}
 use Rattle.model.proofs.Struck.{In, Struck, in-class, below-floor, struck-sweep, under-raise}
 use Rattle.model.proofs.Strike.{struck-strike, struck-new}
 use Rattle.model.proofs.RingsKept.{RegisterOk, sweep-ok, strike-ok}
-use Rattle.model.proofs.BookKept.{BookOk, second-short, drawn-ok, undrawn-ok}
+use Rattle.model.proofs.BookKept.{BookOk, second-short, drawn-ok}
 
 -- a fingerprint as it is read is never 0
 pub read-positive : (fp : ℕ) → 0 < as-read fp
@@ -114,17 +113,15 @@ module _ (u : Usable) (b : Shares) (a : Ask) (k : Book) (reg : Register) where
   says-new Full e = e
   says-new Unjudged e = e
 
-  -- what holds of a take's outcome where the ticket is struck, where it is not, and where its share is given back, holds of it
+  -- what holds of a take's outcome where the ticket is struck, and where nothing is, holds of it
   module _ (P : Taken → Type 0)
-      (struck : (i : ℕ) → room ≡ At i → granted (draw-says b (a .who) second k) ≡ true → P (take-room u a reg (drawn b (a .who) second k) (At i)))
-      (other : (v : Verdict) → (v ≡ New → ⊥) → P (record { says = v; register = reg; book = k }))
-      (returned : (v : Verdict) → (v ≡ New → ⊥) → granted (draw-says b (a .who) second k) ≡ true
-      → P (record { says = v; register = reg; book = undrawn (a .who) second (drawn b (a .who) second k) })) where
-    by-room : granted (draw-says b (a .who) second k) ≡ true → (m : Room) → room ≡ m → P (take-room u a reg (drawn b (a .who) second k) m)
+      (struck : (i : ℕ) → room ≡ At i → granted (draw-says b (a .who) second k) ≡ true → P (take-room u b a reg k (At i)))
+      (other : (v : Verdict) → (v ≡ New → ⊥) → P (record { says = v; register = reg; book = k })) where
+    by-room : granted (draw-says b (a .who) second k) ≡ true → (m : Room) → room ≡ m → P (take-room u b a reg k m)
     unfolding take-room
     by-room g (At i) r = struck i r g
-    by-room g Collides r = returned Late (λ z. no (cc)) g
-    by-room g NoSlots r = returned Full (λ z. no (cc)) g
+    by-room g Collides r = other Late (λ z. no (cc))
+    by-room g NoSlots r = other Full (λ z. no (cc))
 
     by-share : P (take-share u b a reg k)
     unfolding take-share
@@ -146,19 +143,25 @@ module _ (u : Usable) (b : Shares) (a : Ask) (k : Book) (reg : Register) where
       taken-cases (λ (x : Taken). RegisterOk u (x .register) × BookOk b (x .book))
       (λ i r g. (strike-ok u class bucket print (a .stamp) i reg small (read-positive (a .fp)) r ok, drawn-ok b (a .who) second k some-pairs (second-short bucket (u .bucket)) g okb))
       (λ v n. (ok, okb))
-      (λ v n g. (ok, undrawn-ok b (a .who) second _ (drawn-ok b (a .who) second k some-pairs (second-short bucket (u .bucket)) g okb)))
 
   pub rest-keeps : (x fp t : ℕ) → 0 < fp → RegisterOk u reg → Struck x fp t reg → (v : Verdict) → Struck x fp t (take-judged u b a k reg v .register)
   unfolding take-room
   rest-keeps x fp t z ok s =
       taken-cases (λ (y : Taken). Struck x fp t (y .register))
-      (λ i r g. struck-strike u x fp t bucket print (a .stamp) i class reg z (read-positive (a .fp)) ok r s) (λ v n. s) (λ v n g. s)
+      (λ i r g. struck-strike u x fp t bucket print (a .stamp) i class reg z (read-positive (a .fp)) ok r s) (λ v n. s)
 
   pub rest-strikes : RegisterOk u reg → (v : Verdict) → take-judged u b a k reg v .says ≡ New → Asked u a (take-judged u b a k reg v .register)
   unfolding take-room
   rest-strikes ok =
       taken-cases (λ (y : Taken). y .says ≡ New → Asked u a (y .register))
-      (λ i r g e. struck-new u bucket print (a .stamp) class reg (read-positive (a .fp)) ok) (λ v n e. absurd (n e)) (λ v n g e. absurd (n e))
+      (λ i r g e. struck-new u bucket print (a .stamp) class reg (read-positive (a .fp)) ok) (λ v n e. absurd (n e))
+
+  -- what is not New leaves register and book as they were
+  pub rest-leaves : (v : Verdict) → (take-judged u b a k reg v .says ≡ New → ⊥)
+      → (take-judged u b a k reg v .register ≡ reg) × (take-judged u b a k reg v .book ≡ k)
+  unfolding take-room
+  rest-leaves =
+      taken-cases (λ (y : Taken). (y .says ≡ New → ⊥) → (y .register ≡ reg) × (y .book ≡ k)) (λ i r g n. absurd (n refl)) (λ v n m. (refl, refl))
 
 -- ---- take and take_batch
 module _ (u : Usable) (b : Shares) (reg : Register) (k : Book) (a : Ask) where

@@ -1,28 +1,28 @@
 -- No ticket is accepted twice (specs/Once): from any words, for any list of calls and any list of events. Assumes nothing.
-use Prim.Native.Nat.{ℕ, zero, suc, _<_}
+use Prim.Native.Nat.{ℕ, _≤_, _<_}
 use mathlib.Core.Path.{_≡_, refl, sym, _∙_, ap, subst}
-use mathlib.Core.Bool.{Bool, true, false, cond, _&&_}
+use mathlib.Core.Bool.{Bool, true, false}
 use mathlib.Core.List.{List, [], _∷_, _++_}
-use mathlib.Core.Option.{Option, none, some}
+use mathlib.Core.Option.{some}
 use lib.Dec.{eqb}
+use lib.ListN.{length}
 use borrow.Author.Tests.{eqb-true}
 use Rattle.model.specs.declared.Settings.{Settings}
 use Rattle.model.specs.declared.Verdict.the-variants.{New}
-use Rattle.model.specs.declared.Answer.{Answer}
-use Rattle.model.specs.declared.Answer.the-variants.{Refused, Done, Said, Yes, No, Begun, Already, Dumped, Whole, Partly, NoFloor, FloorAt, SweptTo, Entries, Totals}
+use Rattle.model.specs.declared.Answer.the-variants.{Refused, Said}
 use Rattle.runs.proofs.Cases.{by-test, no}
-use Rattle.model.specs.Settings.{settings-of, usable-at}
+use Rattle.model.specs.Settings.{settings-of, usable-at, words-needed}
 use Rattle.model.specs.Register.{Register}
 use Rattle.model.specs.Judge.{bucket-of}
 use Rattle.model.specs.Words.{State}
-use Rattle.model.specs.Calls.{Call, Open, On, Expire, SetLimits, Close, HeldBy, ClassTotals, is-open, register-at, step, held-in, refused, reply, after}
-use Rattle.model.specs.View.{Given, answered, left-by}
+use Rattle.model.specs.Calls.{Call, Open, On, Expire, SetLimits, Close, HeldBy, ClassTotals, is-open, sound, register-at, step, held-in, refused, reply, after}
+use Rattle.model.specs.View.{Given, answered, left-by, words-after}
 use Rattle.model.specs.Soundness.{went-through, Vetted}
-use Rattle.model.specs.Once.{Strike, Kind, kind, asks-about, takes, remakes, Moment, Answered, Replacement, Accepted, CalledNew, remade, unless, Never, Once, moments, left-by-all, NoTicketTwice, Event, Calls, Replaces, Aside, LeavesAlone, left-by-event, event-moments, all-moments, AsideOf, AllAside, NoTicketTwiceAmong}
-use Rattle.model.proofs.Choice.{and-false, true-false}
+use Rattle.model.specs.Once.{Strike, Kind, kind, asks-about, takes, remakes, remade-by, remade-among, NoTicketTwice, Moment, Answered, Accepted, CalledNew, remade, unless, Never, Once, moments, Event, Calls, Replaces, Aside, LeavesAlone, left-by-event, event-moments, all-moments, AllAside, NoTicketTwiceAmong}
+use Rattle.model.proofs.Choice.{or-false, and-false, true-false}
 use Rattle.model.proofs.Struck.{Struck}
 use Rattle.model.proofs.Refusals.{step-through}
-use Rattle.model.proofs.Simulates.{entered, vetted-ok, one-settings, reply-is, after-vetted, after-holds}
+use Rattle.model.proofs.Simulates.{refused-words, entered, vetted-ok, one-settings, reply-is, through-is, after-vetted, after-holds}
 use Rattle.model.proofs.Guarded.{StruckIn, good, strikes, none-some}
 
 -- ---- the guard: under whatever settings the words are vetted, the state that they hold has struck the ticket
@@ -33,25 +33,6 @@ pub record Guarded (t : Strike) (ws : List ℕ) : Type 0 where
 guarded-by : (t : Strike) (st ws : List ℕ) → Vetted st ws → StruckIn (settings-of st) t (held-in (settings-of st) ws) → Guarded t ws
 guarded-by t st ws v h =
     record { struck = λ st′ v′. subst (λ (s : Settings). StruckIn s t (held-in s ws)) (one-settings st st′ ws v v′) h }
-
--- a step's own answer is no refusal, so a call that remakes a register and steps did go through
-through-is : (a : Answer) → ((n : ℕ) → a ≡ Refused n → ⊥) → went-through a ≡ true
-unfolding went-through
-through-is (Refused n) f = absurd (f n refl)
-through-is Done f = refl
-through-is (Said v) f = refl
-through-is Yes f = refl
-through-is No f = refl
-through-is Begun f = refl
-through-is Already f = refl
-through-is (Dumped n) f = refl
-through-is (Whole n) f = refl
-through-is (Partly n) f = refl
-through-is NoFloor f = refl
-through-is (FloorAt x) f = refl
-through-is (SweptTo b ms) f = refl
-through-is (Entries n) f = refl
-through-is (Totals e h u x) f = refl
 
 -- ---- one call, of words and settings that are any
 module _ (st ws : List ℕ) (call : Call) where
@@ -66,10 +47,6 @@ module _ (st ws : List ℕ) (call : Call) where
 
   -- it is refused: nothing is altered
   module _ (e : eqb (refused st ws call) 0 ≡ false) where
-    refused-words : after st ws call ≡ ws
-    unfolding after
-    refused-words = rw e
-
     refused-new : reply st ws call ≡ Said New → ⊥
     unfolding reply
     refused-new n = let q : Refused (refused st ws call) ≡ Said New = rw e at n in no (cc)
@@ -120,7 +97,7 @@ module _ (st ws : List ℕ) (call : Call) where
         by-test (is-open call) (λ o. true-false (opens-all z (t .register) call o) r)
         (λ o. let v = was-vetted z o in
         guarded-after z t (good s t pos call held (entered st ws call z .register) (vetted-ok st ws v) (g .struck st v) .keeps r)))
-        (λ d. subst (λ (l : List ℕ). Guarded t l) (sym (refused-words d)) g)
+        (λ d. subst (λ (l : List ℕ). Guarded t l) (sym (refused-words st ws call d)) g)
 
     call-silent : CalledNew t seen → ⊥
     call-silent c =
@@ -150,14 +127,44 @@ module _ (st ws : List ℕ) (call : Call) where
       (k .0, guarded-after z t (k .1))))
       (λ d. absurd (refused-new d (c .1)))
 
+-- ---- to stand aside it is enough to do so under one settings
+pub leaves-alone : (r : ℕ) (st ws after : List ℕ) → Vetted st ws → Vetted st after
+    → register-at r (held-in (settings-of st) after) ≡ register-at r (held-in (settings-of st) ws) → LeavesAlone r ws after
+leaves-alone r st ws after v w e = record {
+  was-vetted = λ st′ w′.
+      let i = one-settings st st′ after w w′ in
+      record {
+        fit = w′ .fit;
+        long = subst (λ (s : Settings). words-needed s ≤ length ws) i (v .long);
+        sound = subst (λ (s : Settings). sound s ws ≡ true) i (v .sound);
+      };
+  same = λ st′ w′.
+      subst (λ (s : Settings). register-at r (held-in s after) ≡ register-at r (held-in s ws)) (one-settings st st′ after w w′) e;
+}
+
+-- ---- lists of calls
+guarded-through : (t : Strike) → 0 < t .print → (gs : List Given) (ws : List ℕ) → remade-among (t .register) ws gs ≡ false → Guarded t ws
+    → Guarded t (words-after ws gs)
+unfolding remade-among words-after
+guarded-through t pos [] ws e g = g
+guarded-through t pos (h ∷ gs) ws e g =
+    let n = or-false (remade-by (t .register) (h .call) (answered ws h)) (remade-among (t .register) (left-by ws h) gs) e in
+    guarded-through t pos gs (left-by ws h) (n .1) (call-keeps (h .settings) ws (h .call) t pos g (n .0))
+
+pub no-ticket-twice : NoTicketTwice
+no-ticket-twice ws t first between later take new none-remade ask again =
+    let k = call-strikes (first .settings) ws (first .call) t (take, new) in
+    let g = guarded-through t (k .0) between (left-by ws first) none-remade (k .1) in
+    call-silent (later .settings) (words-after (left-by ws first) between) (later .call) t (k .0) g (ask, again)
+
 -- ---- lists of calls, with more moments after them
 unless-holds : (b : Bool) {X : Type 0} → (b ≡ false → X) → unless b X
 unless-holds true f = tt
 unless-holds false f = f refl
 
 never-among : (t : Strike) → 0 < t .print → (gs : List Given) (ws : List ℕ) (ms : List Moment) → Guarded t ws
-    → (Guarded t (left-by-all ws gs) → Never t ms) → Never t (moments ws gs ++ ms)
-unfolding moments left-by-all
+    → (Guarded t (words-after ws gs) → Never t ms) → Never t (moments ws gs ++ ms)
+unfolding moments words-after
 never-among t pos [] ws ms g f = f g
 never-among t pos (h ∷ gs) ws ms g f =
     unless-holds (remade (t .register) (Answered (h .call) (answered ws h)))
@@ -177,37 +184,27 @@ module _ (r : ℕ) where
   unfolding all-moments event-moments left-by-event
   never-all t pos e [] ws a g = tt
   never-all t pos e (Calls gs ∷ es) ws a g =
-      never-among t pos gs ws (all-moments (left-by-all ws gs) es) g (never-all t pos e es (left-by-all ws gs) (a .1))
+      never-among t pos gs ws (all-moments (words-after ws gs) es) g (never-all t pos e es (words-after ws gs) (a .1))
   never-all t pos e (Replaces after ∷ es) ws a g = tt
   never-all t pos e (Aside after ∷ es) ws a g = never-all t pos e es after (a .1) (aside-keeps t e ws after (a .0) g)
 
   -- after each moment of some calls, and then of the rest
-  once-among : (gs : List Given) (ws : List ℕ) (es : List Event) → AllAside r (left-by-all ws gs) es
-      → Once r (all-moments (left-by-all ws gs) es) → Once r (moments ws gs ++ all-moments (left-by-all ws gs) es)
-  unfolding moments left-by-all
+  once-among : (gs : List Given) (ws : List ℕ) (es : List Event) → AllAside r (words-after ws gs) es
+      → Once r (all-moments (words-after ws gs) es) → Once r (moments ws gs ++ all-moments (words-after ws gs) es)
+  unfolding moments words-after
   once-among [] ws es a o = o
   once-among (h ∷ gs) ws es a o = (
     (λ t e c. let k = call-strikes (h .settings) ws (h .call) t c in
-        never-among t (k .0) gs (left-by ws h) (all-moments (left-by-all (left-by ws h) gs) es) (k .1) (never-all t (k .0) e es (left-by-all (left-by ws h) gs) a)),
+        never-among t (k .0) gs (left-by ws h) (all-moments (words-after (left-by ws h) gs) es) (k .1) (never-all t (k .0) e es (words-after (left-by ws h) gs) a)),
     once-among gs (left-by ws h) es a o,
   )
 
   once-all : (es : List Event) (ws : List ℕ) → AllAside r ws es → Once r (all-moments ws es)
   unfolding all-moments event-moments left-by-event
   once-all [] ws a = tt
-  once-all (Calls gs ∷ es) ws a = once-among gs ws es (a .1) (once-all es (left-by-all ws gs) (a .1))
+  once-all (Calls gs ∷ es) ws a = once-among gs ws es (a .1) (once-all es (words-after ws gs) (a .1))
   once-all (Replaces after ∷ es) ws a = ((λ t e c. absurd c), once-all es after (a .1))
   once-all (Aside after ∷ es) ws a = once-all es after (a .1)
 
--- ---- the promise among events, and of a list of calls alone
 pub no-ticket-twice-among : NoTicketTwiceAmong
 no-ticket-twice-among ws es r a = once-all r es ws a
-
-nothing-after : (ms : List Moment) → ms ++ [] ≡ ms
-nothing-after [] = refl
-nothing-after (m ∷ ms) = ap (λ (l : List Moment). m ∷ l) (nothing-after ms)
-
-pub no-ticket-twice : NoTicketTwice
-unfolding all-moments event-moments left-by-event
-no-ticket-twice ws gs r =
-    subst (λ (ms : List Moment). Once r ms) (nothing-after (moments ws gs)) (no-ticket-twice-among ws (Calls gs ∷ []) r (tt, tt))

@@ -1,10 +1,9 @@
 -- A restore or a resume leaves register and book well formed, whatever the dump says. Assumes nothing.
 use Prim.Native.Nat.{ℕ, zero, suc, _≤_}
 use mathlib.Core.Path.{_≡_, refl}
-use mathlib.Core.Bool.{Bool, true, false, cond, not}
+use mathlib.Core.Bool.{Bool, true, not}
 use mathlib.Core.List.{List, [], _∷_}
 use mathlib.Core.Option.{Option, none, some}
-use lib.Dec.{eqb}
 use Rattle.model.specs.declared.Class.{Class}
 use Rattle.model.specs.declared.Class.the-variants.{Feeders, Peers, Own}
 use Rattle.model.specs.declared.Deliverer.{Deliverer}
@@ -14,7 +13,7 @@ use Rattle.model.specs.declared.Room.the-variants.{At, Collides, Full as
 use Rattle.model.specs.declared.Usable.{Usable}
 use Rattle.model.specs.declared.Shares.{Shares}
 use Rattle.runs.proofs.Cases.{split-if}
-use Rattle.model.specs.Class.{pick, swap}
+use Rattle.model.specs.Class.{pick}
 use Rattle.model.specs.Generation.{as-read}
 use Rattle.model.specs.Book.{Book, second-of, granted, draw-says, drawn, undrawn}
 use Rattle.model.specs.Register.{Ring, Register, with-floor}

@@ -4,29 +4,27 @@ use Prim.Native.Nat.{ℕ, zero, suc, _-_, _%_, _≤_, _<_, max}
 use native.Mathlib.Omega.{arith}
 use native.Mathlib.Nat.{mod-lt}
 use mathlib.Core.Path.{_≡_, refl, sym, subst, _∙_}
-use mathlib.Core.Bool.{Bool, true, false, cond, not, _&&_, _||_}
-use mathlib.Core.List.{List, [], _∷_}
+use mathlib.Core.Bool.{Bool, true, false, not, _&&_}
 use mathlib.Core.Option.{Option, none, some}
 use lib.Dec.{leb, eqb}
-use lib.ListN.{length, getD, set, replicate, length-set, length-replicate}
+use lib.ListN.{length, replicate, length-set, length-replicate}
 use borrow.Author.Tests.{eqb-true, leb-true, not-false}
 use Rattle.model.specs.declared.Class.{Class}
 use Rattle.model.specs.declared.Class.the-variants.{Feeders, Peers, Own}
 use Rattle.model.specs.declared.Room.{Room}
-use Rattle.model.specs.declared.Room.the-variants.{At, Collides, Full as NoSlots}
+use Rattle.model.specs.declared.Room.the-variants.{At}
 use Rattle.model.specs.declared.Start.{Start}
 use Rattle.model.specs.declared.Start.the-variants.{Empty, Fallback, At as AtFloor}
 use Rattle.model.specs.declared.Usable.{Usable}
 use Rattle.runs.specs.Combine.{EachOk}
 use Rattle.runs.specs.Form.{Form}
-use Rattle.runs.proofs.Cases.{split-if, by-test, no}
+use Rattle.runs.proofs.Cases.{split-if, no}
 use Rattle.runs.proofs.Each.{each-at, each-set}
-use Rattle.model.specs.Numbers.{raise}
 use Rattle.model.specs.Settings.{ring-of}
-use Rattle.model.specs.Class.{Each, pick, swap}
+use Rattle.model.specs.Class.{pick}
 use Rattle.model.specs.Generation.{Generation, empty, held, among, slots-for, insert, dropped}
 use Rattle.model.specs.GenerationWords.{GenerationOk}
-use Rattle.model.specs.Register.{Ring, Register, spare-words, with-floor, with-rings, generation-at, with-generation, strike, passed, Swept, visit, visits, sweep-ring, sweep-rings, swept-to, through-of, sweep, started-with, started, begin}
+use Rattle.model.specs.Register.{Ring, Register, spare-words, generation-at, with-generation, strike, passed, Swept, visit, visits, sweep-ring, sweep-rings, through-of, sweep, started-with, started, begin}
 use Rattle.model.specs.RegisterWords.{register-form}
 use Rattle.model.specs.Judge.{collides, make-room}
 use Rattle.model.specs.Dump.{drop-bucket}

@@ -1,28 +1,33 @@
 -- A call that goes through does to the state that the words hold what the rules say, and leaves the words sound (specs/Soundness).
 -- Assumes nothing.
-use Prim.Native.Nat.{ℕ, zero, suc, _+_, _-_, _≤_}
+use Prim.Native.Nat.{ℕ, suc, _≤_}
 use native.Mathlib.Omega.{arith}
 use mathlib.Core.Path.{_≡_, refl, sym, _∙_, ap, subst}
 use mathlib.Core.Bool.{Bool, true, false, cond, not, _&&_, _||_}
-use mathlib.Core.List.{List, [], _∷_, _++_}
-use mathlib.Core.Option.{Option, none, some}
-use lib.Dec.{eqb, leb, ltb}
+use mathlib.Core.List.{List, _++_}
+use mathlib.Core.Option.{some}
+use lib.Dec.{eqb}
 use lib.ListN.{length, drop, length-append, length-drop}
 use borrow.Author.Tests.{eqb-true, eq-eqb, ltb-false, not-false}
 use Rattle.model.specs.declared.Settings.{Settings}
 use Rattle.model.specs.declared.Answer.{Answer}
-use Rattle.model.specs.declared.Answer.the-variants.{Refused}
+use Rattle.model.specs.declared.Answer.the-variants.{Refused, Done, Said, Yes, No, Begun, Already, Dumped, Whole, Partly, NoFloor, FloorAt, SweptTo, Entries, Totals}
 use Rattle.runs.specs.Form.{Form, Exact}
 use Rattle.runs.proofs.Cases.{by-test, both-true, no}
 use Rattle.model.specs.Settings.{settings-width, settings-of, settings-fit, words-needed}
 use Rattle.model.specs.Words.{State, state-form}
-use Rattle.model.specs.Calls.{Call, Open, On, Expire, SetLimits, Close, HeldBy, ClassTotals, late, step, codes-fit, settings-words-fit, unfit, too-short, is-open, sound, unsound, no-such-register, refusal, first-met, refusals-of, held-in, refused, reply, after}
-use Rattle.model.specs.View.{kept-settings, view, Given, answered, left-by}
-use Rattle.model.specs.Soundness.{went-through, Vetted, Simulated, Simulation}
+use Rattle.model.specs.Calls.{Call, Open, On, Expire, SetLimits, Close, HeldBy, ClassTotals, step, codes-fit, settings-words-fit, unfit, too-short, is-open, sound, unsound, no-such-register, first-met, held-in, refused, reply, after}
+use Rattle.model.specs.View.{kept-settings, view}
+use Rattle.model.specs.Soundness.{went-through, Vetted, Simulation}
 use Rattle.model.proofs.Choice.{or-cases, true-false}
 use Rattle.model.proofs.Words.{state-exact, state-wide}
 use Rattle.model.proofs.View.{brought-trimmed, sound-holds, written, kept-are, view-written}
 use Rattle.model.proofs.SoundnessKept.{opened-sound, soundness-kept}
+
+-- ---- a refusal alters nothing
+pub refused-words : (st ws : List ℕ) (call : Call) → eqb (refused st ws call) 0 ≡ false → after st ws call ≡ ws
+unfolding after
+refused-words st ws call e = rw e
 
 -- ---- a refusal number of 0: no condition is met
 not-met : (b : Bool) (n m : ℕ) → cond b (suc n) m ≡ 0 → (b ≡ false) × (m ≡ 0)
@@ -100,7 +105,7 @@ module _ (st ws : List ℕ) (call : Call) (z : refused st ws call ≡ 0) where
       (λ o. soundness-kept s call (held-in s ws) f (e .codes, e .register)
       (vetted-ok st ws (record { fit = e .fit; long = e .long; sound = e .vets o })))
 
-  after-is : after st ws call ≡ state-form s .enc left ++ drop (words-needed s) ws
+  pub after-is : after st ws call ≡ state-form s .enc left ++ drop (words-needed s) ws
   unfolding after
   after-is = rw (eq-eqb (refused st ws call) 0 z)
 
@@ -131,6 +136,25 @@ module _ (st ws : List ℕ) (call : Call) (z : refused st ws call ≡ 0) where
       let w = state-exact s .width left left-ok ∙ state-wide s (fit-settings st (e .fit)) in
       let l = e .long in
       ap length after-is ∙ rw (length-append, w, length-drop) (omega arith)
+
+-- ---- an answer that is no refusal went through
+pub through-is : (a : Answer) → ((n : ℕ) → a ≡ Refused n → ⊥) → went-through a ≡ true
+unfolding went-through
+through-is (Refused n) f = absurd (f n refl)
+through-is Done f = refl
+through-is (Said v) f = refl
+through-is Yes f = refl
+through-is No f = refl
+through-is Begun f = refl
+through-is Already f = refl
+through-is (Dumped n) f = refl
+through-is (Whole n) f = refl
+through-is (Partly n) f = refl
+through-is NoFloor f = refl
+through-is (FloorAt x) f = refl
+through-is (SweptTo b ms) f = refl
+through-is (Entries n) f = refl
+through-is (Totals e h u x) f = refl
 
 -- ---- a reply that is no refusal comes of a refusal number of 0
 pub through-zero : (st ws : List ℕ) (call : Call) → went-through (reply st ws call) ≡ true → refused st ws call ≡ 0

@@ -1,33 +1,32 @@
 -- Every call takes a well-formed state to a well-formed state (specs/Soundness). Assumes nothing.
-use Prim.Native.Nat.{ℕ, zero, suc, _+_, _-_, _*_, _≤_, _<_}
+use Prim.Native.Nat.{ℕ, zero, suc, _+_, _*_, _≤_, _<_}
 use native.Mathlib.Omega.{arith}
 use mathlib.Core.Path.{_≡_, refl, ap, _∙_}
-use mathlib.Core.Bool.{Bool, true, false, cond, _&&_}
-use mathlib.Core.List.{List, [], _∷_}
+use mathlib.Core.Bool.{true}
+use mathlib.Core.List.{List}
 use mathlib.Core.Option.{Option, none, some}
-use lib.Dec.{leb, eqb}
-use lib.ListN.{length, getD, set, replicate, length-set, length-replicate}
+use lib.Dec.{eqb}
+use lib.ListN.{length, getD, length-set, length-replicate}
 use borrow.Author.Tests.{leb-false}
 use Rattle.model.specs.declared.Class.{Class}
 use Rattle.model.specs.declared.Class.the-variants.{Feeders, Peers, Own}
 use Rattle.model.specs.declared.Settings.{Settings}
 use Rattle.runs.specs.Form.{Form}
 use Rattle.runs.specs.Combine.{EachOk}
-use Rattle.runs.proofs.Cases.{split-if, both-true}
+use Rattle.runs.proofs.Cases.{both-true}
 use Rattle.runs.proofs.Each.{each-at, each-set}
 use Rattle.model.specs.Settings.{limits-width, limits-of, limits-fit, settings-fit, usable-at}
 use Rattle.model.specs.Class.{pick}
 use Rattle.model.specs.Codes.{start-of}
-use Rattle.model.specs.Book.{Held, Book, opened-book}
-use Rattle.model.specs.Register.{Register, begin, sweep, started}
-use Rattle.model.specs.Judge.{Ask, judge, judge-batch}
-use Rattle.model.specs.Judge.{take as take-ticket}
+use Rattle.model.specs.Book.{Book}
+use Rattle.model.specs.Register.{Register}
+use Rattle.model.specs.Judge.{Ask, judge-batch}
 use Rattle.model.specs.Dump.{Dump, read-dump}
 use Rattle.model.specs.BookWords.{class-form}
 use Rattle.model.specs.RegisterWords.{register-form}
-use Rattle.model.specs.Words.{State, front-spare, unused-width, FrontOk, state-form}
-use Rattle.model.specs.Calls.{Manner, judged, judged-batch, taken, taken-batch, Asking, Deed, Ticket, ContainsHash, Begin, Sweep, DumpTo, Restore, Resume, Floor, Pending, SweptBucket, Call, Open, On, Expire, SetLimits, Close, HeldBy, ClassTotals, Step, no-register, register-at, with-register, with-book, start-all, opened, after-judged, after-taken, asked, after-restored, restored, proven-of, resumed, done-on, least-published, step, starts-fit, limits-words-fit, codes-fit, no-such-register}
-use Rattle.model.specs.Soundness.{Admitted, SoundnessKept, OpenedSound}
+use Rattle.model.specs.Words.{State, front-spare, unused-width, state-form}
+use Rattle.model.specs.Calls.{Manner, judged, judged-batch, taken, taken-batch, Deed, Ticket, ContainsHash, Begin, Sweep, DumpTo, Restore, Resume, Floor, Pending, SweptBucket, Open, On, Expire, SetLimits, Close, HeldBy, ClassTotals, Step, no-register, register-at, with-register, with-book, start-all, opened, after-judged, after-taken, asked, after-restored, restored, proven-of, resumed, done-on, least-published, step, starts-fit, limits-words-fit, codes-fit, no-such-register}
+use Rattle.model.specs.Soundness.{SoundnessKept, OpenedSound}
 use Rattle.model.proofs.Bounds.{slots-small, fit-shares, fit-usable}
 use Rattle.model.proofs.RingsKept.{RegisterOk, from-form, to-form, sweep-ok, begin-ok, started-ok}
 use Rattle.model.proofs.BookKept.{BookOk, pairs-some, expired-ok, closed-ok, limited-ok, opened-ok}

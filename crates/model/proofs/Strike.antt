@@ -1,19 +1,17 @@
 -- A strike keeps what was struck before, and strikes its own ticket. Assumes nothing.
-use Prim.Native.Nat.{ℕ, zero, suc, _%_, _≤_, _<_, max}
+use Prim.Native.Nat.{ℕ, _%_, _<_}
 use native.Mathlib.Omega.{arith}
 use mathlib.Core.Path.{_≡_, refl, sym, subst, _∙_}
-use mathlib.Core.Bool.{Bool, true, false, cond, _||_}
 use lib.Dec.{eqb}
 use lib.ListN.{length, getD}
 use borrow.Author.Tests.{eqb-true, eqb-false, eq-eqb}
 use Rattle.model.specs.declared.Class.{Class}
-use Rattle.model.specs.declared.Room.{Room}
 use Rattle.model.specs.declared.Room.the-variants.{At}
 use Rattle.model.specs.declared.Usable.{Usable}
 use Rattle.runs.proofs.Cases.{by-test}
 use Rattle.model.specs.Settings.{ring-of}
 use Rattle.model.specs.Class.{pick}
-use Rattle.model.specs.Generation.{Generation, empty, held, among, insert}
+use Rattle.model.specs.Generation.{Generation, empty, among, insert}
 use Rattle.model.specs.Register.{Ring, Register, generation-at, with-generation, strike}
 use Rattle.model.specs.Judge.{make-room}
 use Rattle.model.proofs.Choice.{swap-cases, swap-same, or-right}

@@ -17,7 +17,7 @@ use Rattle.model.specs.Numbers.{if_then_else_, ceil, cap64, under}
 use Rattle.model.specs.Settings.{retained}
 use Rattle.model.specs.Class.{class-of, pick}
 use Rattle.model.specs.Generation.{Generation, held, among, as-read, slots-for}
-use Rattle.model.specs.Book.{Book, second-of, granted, draw-says, drawn, undrawn}
+use Rattle.model.specs.Book.{Book, second-of, granted, draw-says, drawn}
 use Rattle.model.specs.Register.{Ring, Register, generation-at, holds, any-class, strike, sweep}
 
 -- a ticket, who delivers it, and the reading with its judging flag
@@ -102,21 +102,21 @@ pub record Taken : Type 0 where
   pub register : Register
   pub book : Book
 
--- with the share drawn: inserted, or the share given back
-unfoldable pub take-room : Usable → Ask → Register → Book → Room → Taken
-take-room u a reg book (At i) =
-    record { says = New; register = strike (class-of (a .who)) (bucket-of u (a .stamp)) (as-read (a .fp)) (a .stamp) reg; book = book }
-take-room u a reg book Collides =
-    record { says = Late; register = reg; book = undrawn (a .who) (second-of (bucket-of u (a .stamp)) (u .bucket)) book }
-take-room u a reg book NoSlots =
-    record { says = Full; register = reg; book = undrawn (a .who) (second-of (bucket-of u (a .stamp)) (u .bucket)) book }
+-- with a share to be had: drawn and inserted; or "it gives the share back" and the book is as it was
+unfoldable pub take-room : Usable → Shares → Ask → Register → Book → Room → Taken
+take-room u b a reg book (At i) = record {
+  says = New;
+  register = strike (class-of (a .who)) (bucket-of u (a .stamp)) (as-read (a .fp)) (a .stamp) reg;
+  book = drawn b (a .who) (second-of (bucket-of u (a .stamp)) (u .bucket)) book;
+}
+take-room u b a reg book Collides = record { says = Late; register = reg; book = book }
+take-room u b a reg book NoSlots = record { says = Full; register = reg; book = book }
 
 -- judged New: "`take` then draws a share (Full if none)"
 unfoldable pub take-share : Usable → Shares → Ask → Register → Book → Taken
 take-share u b a reg book =
-    let s = second-of (bucket-of u (a .stamp)) (u .bucket) in
     let room = make-room (u .slots) (bucket-of u (a .stamp)) (as-read (a .fp)) (pick (class-of (a .who)) (reg .rings)) in
-    if granted (draw-says b (a .who) s book) then take-room u a reg (drawn b (a .who) s book) room
+    if granted (draw-says b (a .who) (second-of (bucket-of u (a .stamp)) (u .bucket)) book) then take-room u b a reg book room
     else record { says = Full; register = reg; book = book }
 
 unfoldable pub take-judged : Usable → Shares → Ask → Book → Register → Verdict → Taken

@@ -18,3 +18,10 @@ pub mod Worked
 pub mod Misreadings
 pub mod Soundness
 pub mod Once
+pub mod EqualPart
+pub mod RoundTrip
+pub mod TwiceLimit
+pub mod Growing
+pub mod NotNew
+pub mod EqualPartCases
+pub mod RoundTripCases

@@ -6,7 +6,7 @@
 -- that are refused stand in the list like the others.
 use Prim.Native.Nat.{ℕ}
 use mathlib.Core.Path.{_≡_}
-use mathlib.Core.Bool.{Bool, true, false, _&&_}
+use mathlib.Core.Bool.{Bool, true, false, _&&_, _||_}
 use mathlib.Core.List.{List, [], _∷_, _++_}
 use mathlib.Core.Option.{Option, none, some}
 use lib.Dec.{eqb}
@@ -16,7 +16,7 @@ use Rattle.model.specs.declared.Answer.the-variants.{Said}
 use Rattle.model.specs.Settings.{settings-of}
 use Rattle.model.specs.Generation.{as-read}
 use Rattle.model.specs.Calls.{Manner, judged, judged-batch, taken, taken-batch, Asking, Deed, Ticket, ContainsHash, Begin, Sweep, DumpTo, Restore, Resume, Floor, Pending, SweptBucket, Call, Open, On, Expire, SetLimits, Close, HeldBy, ClassTotals, register-at, held-in}
-use Rattle.model.specs.View.{Given, answered, left-by}
+use Rattle.model.specs.View.{Given, answered, left-by, words-after}
 use Rattle.model.specs.Soundness.{went-through, Vetted}
 
 -- a ticket on a register; the fingerprint as it is read
@@ -86,7 +86,25 @@ remakes r Opens = true
 remakes r (Remakes q) = eqb r q
 remakes r Other = false
 
--- ---- what is seen of a list, moment by moment: a call with its answer, or that other words were put in place of these
+-- ---- lists of calls
+-- an opening, or a restore or resume on register r, that went through
+abbrev pub remade-by : ℕ → Call → Answer → Bool
+remade-by r c a = remakes r (kind c) && went-through a
+
+unfoldable pub remade-among : ℕ → List ℕ → List Given → Bool
+remade-among r ws [] = false
+remade-among r ws (g ∷ gs) = remade-by r (g .call) (answered ws g) || remade-among r (left-by ws g) gs
+
+-- THE PROMISE: `first` is a take or a take_batch that answers New for a ticket, `between` are calls of which none remakes its
+-- register, `later` is a judge, a take or one of their batch forms that asks about the same ticket: then it does not answer New
+abbrev pub NoTicketTwice : Type 0
+NoTicketTwice =
+    (ws : List ℕ) (t : Strike) (first : Given) (between : List Given) (later : Given) → takes (kind (first .call)) ≡ some t
+    → answered ws first ≡ Said New → remade-among (t .register) (left-by ws first) between ≡ false → asks-about (kind (later .call)) ≡ some t
+    → answered (words-after (left-by ws first) between) later ≡ Said New → ⊥
+
+-- ---- lists of events, for calls that come later: each says which kind of event it is, and the promise holds among them
+-- what is seen of a list, moment by moment: a call with its answer, or that other words were put in place of these
 pub data Moment : Type 0 where
   Answered : Call → Answer → Moment
   Replacement : Moment
@@ -101,9 +119,9 @@ abbrev pub CalledNew : Strike → Moment → Type 0
 CalledNew t (Answered c a) = (asks-about (kind c) ≡ some t) × (a ≡ Said New)
 CalledNew t Replacement = ⊥
 
--- an opening, or a restore or resume on register r, went through
+-- register r is made afresh
 abbrev pub remade : ℕ → Moment → Bool
-remade r (Answered c a) = remakes r (kind c) && went-through a
+remade r (Answered c a) = remade-by r c a
 remade r Replacement = true
 
 abbrev pub unless : Bool → Type 0 → Type 0
@@ -120,20 +138,10 @@ abbrev pub Once : ℕ → List Moment → Type 0
 Once r [] = Unit {0}
 Once r (m ∷ ms) = ((t : Strike) → t .register ≡ r → Accepted t m → Never t ms) × Once r ms
 
--- ---- lists of calls
 unfoldable pub moments : List ℕ → List Given → List Moment
 moments ws [] = []
 moments ws (g ∷ gs) = Answered (g .call) (answered ws g) ∷ moments (left-by ws g) gs
 
-unfoldable pub left-by-all : List ℕ → List Given → List ℕ
-left-by-all ws [] = ws
-left-by-all ws (g ∷ gs) = left-by-all (left-by ws g) gs
-
--- THE PROMISE
-abbrev pub NoTicketTwice : Type 0
-NoTicketTwice = (ws : List ℕ) (gs : List Given) (r : ℕ) → Once r (moments ws gs)
-
--- ---- lists of events, for calls that come later: each says which kind of event it is, and the promise holds among them
 pub data Event : Type 0 where
   -- it does what these calls do, one after the other
   Calls : List Given → Event
@@ -148,7 +156,7 @@ pub record LeavesAlone (r : ℕ) (ws after : List ℕ) : Type 0 where
   pub same : (st : List ℕ) → Vetted st after → register-at r (held-in (settings-of st) after) ≡ register-at r (held-in (settings-of st) ws)
 
 unfoldable pub left-by-event : List ℕ → Event → List ℕ
-left-by-event ws (Calls gs) = left-by-all ws gs
+left-by-event ws (Calls gs) = words-after ws gs
 left-by-event ws (Replaces after) = after
 left-by-event ws (Aside after) = after
 
@@ -177,5 +185,5 @@ NoTicketTwiceAmong = (ws : List ℕ) (es : List Event) (r : ℕ) → AllAside r 
 
 -- the definitions of this file, for a theorem that computes
 unfoldable pub compute-once : ℕ
-unfolding manner-kind deed-kind kind asks-about takes remakes moments left-by-all left-by-event event-moments all-moments
+unfolding words-after manner-kind deed-kind kind asks-about takes remakes remade-among moments left-by-event event-moments all-moments
 compute-once = 0

@@ -58,3 +58,7 @@ answered ws g = reply (g .settings) ws (g .call)
 
 abbrev pub left-by : List ℕ → Given → List ℕ
 left-by ws g = after (g .settings) ws (g .call)
+
+unfoldable pub words-after : List ℕ → List Given → List ℕ
+words-after ws [] = ws
+words-after ws (g ∷ gs) = words-after (left-by ws g) gs

@@ -1,2 +1,3 @@
 pub mod Arithmetic
 pub mod Needed
+pub mod Placing

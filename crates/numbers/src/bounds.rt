@@ -9,6 +9,7 @@ ghost use mathlib.Core.Path.{_≡_};
 ghost use mathlib.Core.Bool.{cond};
 ghost use Prim.Native.Nat.{_<_, _≤_};
 ghost use lib.Dec.{ltb};
+ghost use lib.ListN.{length};
 ghost use Rattle.model.specs.Settings.{usable-of as usable-in, usable-below as usable-read, no-usable as no-settings, settings-of as settings-in, limits-of as limits-in, usable-at, power-of-two, window-fit as window-within, usable-fit as usable-within, shares-fit as shares-within, limits-fit as limits-within, settings-fit as settings-within, fit-at, register-words, words-for, book-words as places-words, words-needed as needed};
 
 // The words of settings, and of limits.
@@ -36,8 +37,8 @@ fn no_usable() -> Usable
 }
 
 // The settings of a register, as they stand in the words.
-fn usable_of(st: &[u64; 29], r: usize) -> Usable
-    requires { ⌜ r < 4 ⌝ }
+fn usable_of(st: &[u64], r: usize) -> Usable
+    requires { ⌜ (r < 4) × (length (now st) ≡ 29) ⌝ }
     ensures { λ u. ⌜ u ≡ usable-in (now (st .entry)) r ⌝ }
 {
     let a = 5 + 6 * r;
@@ -56,8 +57,8 @@ fn usable_of(st: &[u64; 29], r: usize) -> Usable
 }
 
 // The same, or none where there is no such register.
-fn usable_below(st: &[u64; 29], r: usize) -> Usable
-    requires { ⌜ r < 4 ⌝ }
+fn usable_below(st: &[u64], r: usize) -> Usable
+    requires { ⌜ (r < 4) × (length (now st) ≡ 29) ⌝ }
     ensures { λ u. ⌜ u ≡ usable-read (now (st .entry)) r ⌝ }
 {
     if (r as u64) < st[0] {
@@ -66,7 +67,8 @@ fn usable_below(st: &[u64; 29], r: usize) -> Usable
     no_usable()
 }
 
-pub fn settings_of(st: &[u64; 29]) -> Settings
+pub fn settings_of(st: &[u64]) -> Settings
+    requires { ⌜ length (now st) ≡ 29 ⌝ }
     ensures { λ r. ⌜ r ≡ settings-in (now (st .entry)) ⌝ }
 {
     let a = usable_below(st, 0);
@@ -85,7 +87,8 @@ pub fn settings_of(st: &[u64; 29]) -> Settings
     }
 }
 
-pub fn limits_of(ls: &[u64; 5]) -> Limits
+pub fn limits_of(ls: &[u64]) -> Limits
+    requires { ⌜ length (now ls) ≡ 5 ⌝ }
     ensures { λ r. ⌜ r ≡ limits-in (now (ls .entry)) ⌝ }
 {
     Limits {

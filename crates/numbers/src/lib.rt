@@ -4,3 +4,4 @@ mod bounds;
 mod capped;
 mod codes;
 mod spans;
+mod starts;

@@ -5,43 +5,43 @@ use Rattle.numbers.proofs.bounds.settings_of.Reads as reads
 use Rattle.numbers.proofs.bounds.settings_of.Lts as lts
 use Rattle.numbers.proofs.bounds.usable_below.Reads as usable-below-reads
 
--- src/bounds.rt:66:9
+-- src/bounds.rt:74:9
 usable-below-requires : tie.Need-usable-below-requires
 usable-below-requires c κs = search needs
 
--- src/bounds.rt:67:9
+-- src/bounds.rt:75:9
 usable-below-requires-2 : tie.Need-usable-below-requires-2
 usable-below-requires-2 c κs = search needs
 
--- src/bounds.rt:68:9
+-- src/bounds.rt:76:9
 usable-below-requires-3 : tie.Need-usable-below-requires-3
 usable-below-requires-3 c κs = search needs
 
--- src/bounds.rt:69:9
+-- src/bounds.rt:77:9
 usable-below-requires-4 : tie.Need-usable-below-requires-4
 usable-below-requires-4 c κs = search needs
 
--- src/bounds.rt:71:20
-element-copy-out-t8 : tie.Need-element-copy-out-t8
-element-copy-out-t8 c = search needs
+-- src/bounds.rt:79:20
+shared-slice-read-t7 : tie.Need-shared-slice-read-t7
+shared-slice-read-t7 c = search needs
 
--- src/bounds.rt:73:21
-element-copy-out-t11 : tie.Need-element-copy-out-t11
-element-copy-out-t11 c = search needs
+-- src/bounds.rt:81:21
+shared-slice-read-t9 : tie.Need-shared-slice-read-t9
+shared-slice-read-t9 c = search needs
 
--- src/bounds.rt:74:20
-element-copy-out-t14 : tie.Need-element-copy-out-t14
-element-copy-out-t14 c = search needs
+-- src/bounds.rt:82:20
+shared-slice-read-t11 : tie.Need-shared-slice-read-t11
+shared-slice-read-t11 c = search needs
 
--- src/bounds.rt:75:21
-element-copy-out-t17 : tie.Need-element-copy-out-t17
-element-copy-out-t17 c = search needs
+-- src/bounds.rt:83:21
+shared-slice-read-t13 : tie.Need-shared-slice-read-t13
+shared-slice-read-t13 c = search needs
 
--- src/bounds.rt:76:19
-element-copy-out-t20 : tie.Need-element-copy-out-t20
-element-copy-out-t20 c = search needs
+-- src/bounds.rt:84:19
+shared-slice-read-t15 : tie.Need-shared-slice-read-t15
+shared-slice-read-t15 c = search needs
 
--- src/bounds.rt:63:1
+-- src/bounds.rt:70:1
 returns : tie.Need-returns
 returns c = rw (c .before .before .before .before .before .usable-below4 .ensures, c .before .before .before .before .before .before .usable-below3 .ensures, c .before .before .before .before .before .before .before .usable-below2 .ensures, c .before .before .before .before .before .before .before .before .usable-below .ensures)
 
@@ -53,9 +53,9 @@ settings-of-spec =
     usable-below-requires-2
     usable-below-requires-3
     usable-below-requires-4
-    element-copy-out-t8
-    element-copy-out-t11
-    element-copy-out-t14
-    element-copy-out-t17
-    element-copy-out-t20
+    shared-slice-read-t7
+    shared-slice-read-t9
+    shared-slice-read-t11
+    shared-slice-read-t13
+    shared-slice-read-t15
     returns)

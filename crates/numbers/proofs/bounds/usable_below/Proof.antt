@@ -7,27 +7,27 @@ use Rattle.numbers.proofs.bounds.usable_below.Lts as lts
 use Rattle.numbers.proofs.bounds.no_usable.Reads as no-usable-reads
 use Rattle.numbers.proofs.bounds.usable_of.Reads as usable-of-reads
 
--- src/bounds.rt:57:21
-element-copy-out-if1 : tie.Need-element-copy-out-if1
-element-copy-out-if1 c = search needs
+-- src/bounds.rt:64:21
+shared-slice-read-if1 : tie.Need-shared-slice-read-if1
+shared-slice-read-if1 c = search needs
 
--- src/bounds.rt:58:9
+-- src/bounds.rt:65:9
 usable-of-requires : tie.Need-usable-of-requires
 usable-of-requires c κs = search needs
 
--- src/bounds.rt:58:9
+-- src/bounds.rt:65:9
 returns : tie.Need-returns
 returns c = rw (c .usable-of .ensures, lt-ltb _ _ (c .before .if1 .taken))
 
--- src/bounds.rt:60:5
+-- src/bounds.rt:67:5
 no-usable-requires : tie.Need-no-usable-requires
 no-usable-requires c κs = search needs
 
--- src/bounds.rt:53:1
+-- src/bounds.rt:60:1
 returns-2 : tie.Need-returns-2
 returns-2 c = rw (c .no-usable .ensures, le-ltb _ _ (c .before .if1 .left))
 
 pub usable-below-spec : {M : Type 1} → statement M
 usable-below-spec =
     tie.close
-    (tie.spec element-copy-out-if1 usable-of-requires returns no-usable-requires returns-2)
+    (tie.spec shared-slice-read-if1 usable-of-requires returns no-usable-requires returns-2)

@@ -1,0 +1,136 @@
+-- The conditions of the round trip are met, computed on words, settings, calls and bytes (specs/RoundTripCases); so what was dumped comes
+-- back.
+use Prim.Native.Nat.{ℕ, _≤_, _<_}
+use native.Mathlib.Omega.{arith}
+use mathlib.Core.Path.{_≡_, refl}
+use mathlib.Core.Bool.{Bool, true, false, _&&_}
+use mathlib.Core.List.{List, [], _∷_, _++_}
+use lib.Dec.{leb, lit≤}
+use lib.ListN.{length, replicate}
+use borrow.Author.Tests.{leb-true}
+use Rattle.model.specs.declared.Class.{Class}
+use Rattle.model.specs.declared.Class.the-variants.{Feeders, Peers, Own}
+use Rattle.model.specs.declared.Start.the-variants.{Empty}
+use Rattle.model.specs.declared.Answer.the-variants.{Dumped, Whole}
+use Rattle.runs.specs.Words.{zeros, sameWords, pad}
+use Rattle.runs.specs.Chunks.{flat}
+use Rattle.runs.specs.Combine.{EachOk, wideRow, encRow, readRow, testRow, encUp, readUp, testUp}
+use Rattle.runs.proofs.Cases.{both-true}
+use Rattle.model.specs.Numbers.{compute-numbers, top64}
+use Rattle.model.specs.Settings.{compute-settings, settings-of, usable-at}
+use Rattle.model.specs.Class.{compute-class, pick}
+use Rattle.model.specs.Generation.{compute-generation}
+use Rattle.model.specs.Book.{compute-book, Book, together, places-of}
+use Rattle.model.specs.Register.{compute-register, Register, started}
+use Rattle.model.specs.Judge.{compute-judge}
+use Rattle.model.specs.Dump.{compute-dump, dump-words}
+use Rattle.model.specs.Codes.{compute-codes}
+use Rattle.model.specs.BookWords.{read-pairs, pairs-sound, place-sound, used-place, has-place, distinct}
+use Rattle.model.specs.RegisterWords.{heading-sound}
+use Rattle.model.specs.GenerationWords.{reached-from, generation-sound}
+use Rattle.model.specs.Words.{front-sound, State}
+use Rattle.model.specs.Soundness.{went-through, Vetted}
+use Rattle.model.specs.Calls.{compute-calls, On, Restore, register-at, held-in, reply, after}
+use Rattle.model.specs.View.{words-after}
+use Rattle.model.specs.RoundTrip.{seconds-in, pairs-with, new-units, RoomFor, EnoughRoom, Words64, Source, written, Target, Returns}
+use Rattle.model.specs.RoundTripCases.{source-settings, source-words, output, dump-call, target-settings, target-words}
+use Rattle.model.proofs.Simulates.{vetted-kept}
+use Rattle.model.proofs.RoundTrip.{vetted-seen, round-trip}
+
+-- all that words are tested, read and written by, and all rules
+unfoldable compute-all : ℕ
+unfolding zeros sameWords pad flat EachOk wideRow encRow readRow testRow encUp readUp testUp read-pairs pairs-sound place-sound used-place has-place distinct heading-sound reached-from generation-sound front-sound compute-numbers compute-settings compute-class compute-generation compute-book compute-register compute-judge compute-dump compute-codes compute-calls went-through words-after seconds-in pairs-with new-units
+compute-all = 0
+
+unfoldable all-small : List ℕ → Bool
+all-small [] = true
+all-small (w ∷ ws) = leb w top64 && all-small ws
+
+small-words : (ws : List ℕ) → all-small ws ≡ true → Words64 ws
+unfolding all-small
+small-words [] t = tt
+small-words (w ∷ ws) t = let p = both-true (leb w top64) (all-small ws) t in (leb-true w top64 (p .0), small-words ws (p .1))
+
+-- ---- the source
+words-small : all-small source-words ≡ true
+unfolding compute-all all-small
+words-small = refl
+
+said : reply source-settings source-words dump-call ≡ Dumped 104
+unfolding compute-all
+said = refl
+
+source-vetted : Vetted source-settings source-words
+unfolding compute-all
+source-vetted = record { fit = refl; long = lit≤ tt; sound = refl }
+
+abbrev held-there : State
+held-there = held-in (settings-of source-settings) source-words
+
+source : Source source-settings source-words held-there 0 output 104
+source = record { words = small-words source-words words-small; holds = vetted-seen source-settings source-words source-vetted; said = said }
+
+-- ---- the target
+target-vetted : Vetted target-settings target-words
+unfolding compute-all
+target-vetted = record { fit = refl; long = lit≤ tt; sound = refl }
+
+abbrev held-here : State
+held-here = held-in (settings-of target-settings) target-words
+
+untouched : register-at 1 held-here ≡ started (usable-at (settings-of source-settings) 0) Empty
+unfolding compute-all
+untouched = refl
+
+target : Target (usable-at (settings-of source-settings) 0) target-settings target-words held-here 1
+target = record {
+  holds = vetted-seen target-settings target-words target-vetted;
+  fit = target-vetted .fit;
+  kept = vetted-kept target-settings target-words target-vetted;
+  there = lit≤ tt;
+  settings = refl;
+  untouched = untouched;
+}
+
+abbrev from : Register
+from = register-at 0 held-there
+
+abbrev book : Book
+book = held-here .book
+
+-- one entry comes to class 0, where the restored deliverer has one; two to class 1, where it has none; none to class 2
+class-room : (c : Class) → 0 < length (seconds-in (usable-at (settings-of source-settings) 0) (pick c (from .rings)))
+    → RoomFor (settings-of target-settings .shares) (together (book .limits) c) c (seconds-in (usable-at (settings-of source-settings) 0) (pick c (from .rings))) (places-of c book)
+unfolding compute-all
+class-room Feeders h = record { covered = lit≤ tt; a-place = refl; the-pairs = lit≤ tt }
+class-room Peers h = record { covered = lit≤ tt; a-place = refl; the-pairs = lit≤ tt }
+class-room Own h = absurd (omega arith)
+
+still-open : book .closed ≡ false
+unfolding compute-all
+still-open = refl
+
+room : EnoughRoom (usable-at (settings-of source-settings) 0) (settings-of target-settings .shares) book (from .rings)
+room = record { open-book = still-open; per-class = class-room }
+
+-- ---- so it comes back, also with bytes after it
+abbrev dump : List ℕ
+dump = written source-settings source-words 0 output 104
+
+pub comes-back : (more : List ℕ) → Returns from dump target-settings target-words 1 (dump ++ more)
+comes-back more = round-trip source-settings source-words held-there 0 output 104 source target-settings target-words held-here 1 target room more .1
+
+-- and by computing, with nine bytes after it: 104 bytes read, floor 1,000, and each class holds in bucket 4 what it held, and nothing else
+abbrev trailing : List ℕ
+trailing = replicate 9 1
+
+abbrev restored : Register
+restored = register-at 1 (held-in (settings-of target-settings) (after target-settings target-words (On 1 (Restore (dump ++ trailing)))))
+
+pub read-whole : reply target-settings target-words (On 1 (Restore (dump ++ trailing))) ≡ Whole 104
+unfolding compute-all
+read-whole = refl
+
+pub dumped-again : dump-words restored ≡ 1_001 ∷ 1 ∷ 4 ∷ 2_000 ∷ 1 ∷ 13 ∷ 1 ∷ 4 ∷ 2_000 ∷ 2 ∷ 21 ∷ 22 ∷ 0 ∷ []
+unfolding compute-all
+dumped-again = refl

@@ -1,0 +1,141 @@
+-- Parts lie within the needed words, and settings in bounds keep their places small.
+use Prim.Native.Nat.{ℕ, zero, suc, _+_, _-_, _*_, _<_, _≤_}
+use native.Mathlib.Nat.{mul-assoc, mul-le-mul, mul-le-mul-right, suc-mul}
+use native.Mathlib.Numerals.{add-one}
+use native.Mathlib.Omega.{arith}
+use mathlib.Core.Path.{_≡_, refl, sym, _∙_, ap}
+use mathlib.Core.Bool.{Bool, true, false, cond, _&&_, _||_}
+use mathlib.Core.List.{List, [], _∷_}
+use lib.Dec.{leb}
+use borrow.Author.Tests.{leb-true, lt-leb}
+use Rattle.runs.proofs.Cases.{both-true, each-true}
+use Rattle.model.specs.declared.Class.{Class}
+use Rattle.model.specs.declared.Class.the-variants.{Feeders, Peers, Own}
+use Rattle.model.specs.declared.Usable.{Usable}
+use Rattle.model.specs.declared.Shares.{Shares}
+use Rattle.model.specs.declared.Settings.{Settings}
+use Rattle.model.specs.Numbers.{between}
+use Rattle.model.specs.Settings.{ring-of, usable-fit, shares-fit, usable-at, fit-at, settings-fit, register-words, registers-words, book-words, words-needed}
+use Rattle.model.specs.Class.{class-number}
+use Rattle.model.specs.Words.{class-width, class-start, ring-width, register-width, ring-start, after-registers, register-start}
+use Rattle.numbers.proofs.Needed.{Few, usable-few, FewPlaces, shares-few}
+
+-- what settings in bounds give
+pub record Fit (s : Settings) : Type 0 where
+  pub least : 1 ≤ s .registers
+  pub most : s .registers ≤ 4
+  pub shares : shares-fit (s .shares) ≡ true
+  pub each : (r : ℕ) → r < s .registers → usable-fit (usable-at s r) ≡ true
+
+at-each : (s : Settings) → s .registers ≤ 4 → fit-at s 0 ≡ true → fit-at s 1 ≡ true → fit-at s 2 ≡ true → fit-at s 3 ≡ true
+    → (r : ℕ) → r < s .registers → usable-fit (usable-at s r) ≡ true
+at-each s m f0 f1 f2 f3 zero h = rw (lt-leb (s .registers) 0 h) at f0
+at-each s m f0 f1 f2 f3 (suc zero) h = rw (lt-leb (s .registers) 1 h) at f1
+at-each s m f0 f1 f2 f3 (suc (suc zero)) h = rw (lt-leb (s .registers) 2 h) at f2
+at-each s m f0 f1 f2 f3 (suc (suc (suc zero))) h = rw (lt-leb (s .registers) 3 h) at f3
+at-each s m f0 f1 f2 f3 (suc (suc (suc (suc r)))) h = absurd (omega arith)
+
+pub fit-of : (s : Settings) → settings-fit s ≡ true → Fit s
+unfolding settings-fit
+fit-of s fit =
+    let p = each-true (between 1 4 (s .registers)) (shares-fit (s .shares) ∷ fit-at s 0 ∷ fit-at s 1 ∷ fit-at s 2 ∷ fit-at s 3 ∷ []) fit in
+    let q = both-true (leb 1 (s .registers)) (leb (s .registers) 4) (p .0) in
+    let m = leb-true (s .registers) 4 (q .1) in
+    record {
+      least = leb-true 1 (s .registers) (q .0);
+      most = m;
+      shares = p .1 .0;
+      each = at-each s m (p .1 .1 .0) (p .1 .1 .1 .0) (p .1 .1 .1 .1 .0) (p .1 .1 .1 .1 .1);
+    }
+
+-- ---- a class in the book
+pub class-few : (b : Shares) → shares-fit b ≡ true → b .places * (2 * (b .pairs) + 4) ≤ 65_792
+class-few b fit =
+    let f = shares-few b fit in
+    let v : 2 * (b .pairs) + 4 ≤ 1_028 = let p = f .pairs in omega arith in
+    let m = mul-le-mul (f .places) v in
+    omega (arith, m)
+
+-- three of a width lie one after the other
+third : (c : Class) (k : ℕ) → class-number c * k + k ≤ 3 * k
+unfolding class-number
+third Feeders k = omega arith
+third Peers k = omega arith
+third Own k = omega arith
+
+book-is : (b : Shares) → 3 * class-width b ≡ 12 + book-words b
+unfolding book-words
+book-is b = let e = mul-assoc 3 (b .places) (2 * (b .pairs) + 4) in omega arith
+
+pub class-within : (s : Settings) (c : Class) → class-start s c + class-width (s .shares) ≤ words-needed s
+unfolding words-needed
+class-within s c = omega (arith, third c (class-width (s .shares)), book-is (s .shares))
+
+-- ---- a class's ring in its register
+pub ring-few : (u : Usable) → usable-fit u ≡ true → ring-of u * (u .slots + 4) ≤ 263_168
+ring-few u fit =
+    let f = usable-few u fit in
+    let b : u .slots + 4 ≤ 1_028 = let k = f .slots in omega arith in
+    let m = mul-le-mul (f .ring) b in
+    omega (arith, m)
+
+pub ring-within : (u : Usable) (c : Class) → ring-start u c + ring-width u ≤ register-width u
+ring-within u c = omega (arith, third c (ring-width u))
+
+-- ---- a register in the run
+register-is : (u : Usable) → register-width u ≡ 24 + register-words u
+unfolding register-words
+register-is u = let e = mul-assoc 3 (ring-of u) (u .slots + 4) in omega arith
+
+-- one register more
+pub after-more : (s : Settings) (r n : ℕ) → after-registers s r (suc n) ≡ after-registers s r n + register-width (usable-at s (r + n))
+unfolding after-registers
+after-more s r zero = let e : r + 0 ≡ r = omega arith in rw e (omega arith)
+after-more s r (suc n) = let e : r + suc n ≡ suc r + n = omega arith in rw e (let k = after-more s (suc r) n in omega arith)
+
+after-within : (s : Settings) (n r m : ℕ) → r < m → after-registers s n r + register-width (usable-at s (n + r)) ≤ after-registers s n m
+unfolding after-registers
+after-within s n r zero h = absurd (omega arith)
+after-within s n zero (suc m) h = let e : n + 0 ≡ n = omega arith in rw e (omega arith)
+after-within s n (suc r) (suc m) h = let e : n + suc r ≡ suc n + r = omega arith in rw e (let k = after-within s (suc n) r m (omega arith) in omega arith)
+
+after-all : (s : Settings) (r n : ℕ) → after-registers s r n ≡ n * 24 + registers-words s r n
+unfolding after-registers registers-words
+after-all s r zero = refl
+after-all s r (suc n) = omega (arith, register-is (usable-at s r), after-all s (suc r) n)
+
+pub register-within : (s : Settings) (r : ℕ) → s .registers ≤ 4 → r < s .registers → register-start s r + register-width (usable-at s r) ≤ words-needed s
+unfolding words-needed
+register-within s r m h =
+    let z : 0 + r ≡ r = omega arith in
+    let w = rw z at (after-within s 0 r (s .registers) h) in
+    omega (arith, w, after-all s 0 (s .registers), book-is (s .shares))
+
+-- ---- a class's number times a width, as the code has it
+pub number-few : (c : Class) → class-number c ≤ 2
+unfolding class-number
+number-few Feeders = omega arith
+number-few Peers = omega arith
+number-few Own = omega arith
+
+pub product-few : (c : Class) (n k most : ℕ) → n ≡ class-number c → k ≤ most → n * k ≤ 2 * most
+product-few c n k most e h = let m = mul-le-mul {n₁ = n} {n₂ = 2} (let f = number-few c in omega arith) h in m
+
+-- ---- the sum over the registers before one, as far as it has gone
+pub record Added (s : Settings) (register a i : ℕ) : Type 0 where
+  pub within : i ≤ register
+  pub sum : a ≡ register-start s i
+  pub small : a ≤ 200_000 + i * 789_528
+
+pub added-none : (s : Settings) (register width : ℕ) → width ≡ class-width (s .shares) → width ≤ 65_796 → Added s register (20 + 3 * width) 0
+unfolding after-registers
+added-none s register width e h = record { within = omega arith; sum = omega arith; small = omega arith }
+
+pub added-more : (s : Settings) (register a i more : ℕ) → Added s register a i → i < register → more ≡ register-width (usable-at s i) → more ≤ 789_528
+    → Added s register (a + more) (i + 1)
+added-more s register a i more l h e f =
+    let z : 0 + i ≡ i = omega arith in
+    let k = rw z at (after-more s 0 i) in
+    let t = l .sum in
+    let y = l .small in
+    record { within = omega arith; sum = rw add-one (omega (arith, k)); small = omega arith }

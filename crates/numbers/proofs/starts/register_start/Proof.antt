@@ -1,0 +1,79 @@
+use mathlib.Core.Path.{_≡_}
+use Prim.Native.Nat.{_-_}
+use Rattle.numbers.proofs.Placing.{fit-of, Added, added-none, added-more, register-within}
+use native.Mathlib.Omega.{arith}
+use Rattle.numbers.proofs.starts.register_start.Statement.{statement}
+use Rattle.numbers.proofs.starts.register_start.Tie as tie
+use Rattle.numbers.proofs.starts.register_start.Reads as reads
+use Rattle.numbers.proofs.starts.register_start.Lts as lts
+use Rattle.numbers.proofs.bounds.usable_in.Reads as usable-in-reads
+use Rattle.numbers.proofs.starts.class_width.Reads as class-width-reads
+use Rattle.numbers.proofs.starts.register_width.Reads as register-width-reads
+
+abbrev Inv-loop : tie.InvT-loop
+Inv-loop s register width a₀ i₀ a i = Added s register a i
+
+abbrev μ-loop : tie.MeasureT-loop
+μ-loop s register width a₀ i₀ a i = register - i
+
+-- src/starts.rt:72:9
+class-width-requires : tie.Need-class-width-requires Inv-loop μ-loop
+class-width-requires c κs = fit-of (c .args .s) (c .pre .0) .shares
+
+-- src/starts.rt:73:22
+mul-a : tie.Need-mul-a Inv-loop μ-loop
+mul-a c = let k = c .class-width .ensures .1 in omega arith
+
+-- src/starts.rt:73:17
+add-a : tie.Need-add-a Inv-loop μ-loop
+add-a c = let k = c .class-width .ensures .1 in omega arith
+
+-- src/starts.rt:75:5
+loop-holds : tie.Need-loop-holds Inv-loop μ-loop
+loop-holds c = added-none (c .before .args .s) (c .before .args .register) _ (c .class-width .ensures .0) (c .class-width .ensures .1)
+
+-- src/starts.rt:76:13
+usable-in-requires : tie.Need-usable-in-requires Inv-loop μ-loop
+usable-in-requires c κs = let m = fit-of (c .before .before .before .args .s) (c .before .before .before .pre .0) .most in let t = c .loop-test .taken in let p = c .before .before .before .pre .1 in omega arith
+
+-- src/starts.rt:77:13
+register-width-requires : tie.Need-register-width-requires Inv-loop μ-loop
+register-width-requires c κs = let t = c .before .loop-test .taken in let p = c .before .before .before .before .pre .1 in rw (c .usable-in .ensures) (fit-of (c .before .before .before .before .args .s) (c .before .before .before .before .pre .0) .each (c .before .before .loop .i) (omega arith))
+
+-- src/starts.rt:78:9
+add-a-2 : tie.Need-add-a-2 Inv-loop μ-loop
+add-a-2 c = let m = fit-of (c .before .before .before .before .before .args .s) (c .before .before .before .before .before .pre .0) .most in let y = c .before .before .before .loop .inv .small in let w = c .before .before .before .loop .inv .within in let p = c .before .before .before .before .before .pre .1 in let k = c .register-width .ensures .1 in omega arith
+
+-- src/starts.rt:79:9
+add-i : tie.Need-add-i Inv-loop μ-loop
+add-i c = let t = c .before .before .loop-test .taken in omega arith
+
+-- src/starts.rt:75:5
+loop-less : tie.Need-loop-less Inv-loop μ-loop
+loop-less c = let t = c .before .before .loop-test .taken in omega arith
+
+-- src/starts.rt:75:5
+loop-again : tie.Need-loop-again Inv-loop μ-loop
+loop-again c = added-more (c .before .before .before .before .before .args .s) (c .before .before .before .before .before .args .register) (c .before .before .before .loop .a) (c .before .before .before .loop .i) _ (c .before .before .before .loop .inv) (c .before .before .loop-test .taken) (rw (c .before .usable-in .ensures) at (c .register-width .ensures .0)) (c .register-width .ensures .1)
+
+-- src/starts.rt:68:1
+returns : tie.Need-returns Inv-loop μ-loop
+returns c = let l = c .before .loop .inv in let w = l .within in let t = c .loop-test .left in let e : c .before .loop .i ≡ (c .before .before .before .args .register) = omega arith in let k = rw e at (l .sum) in let m = fit-of (c .before .before .before .args .s) (c .before .before .before .pre .0) .most in (k, rw k (register-within (c .before .before .before .args .s) (c .before .before .before .args .register) m (c .before .before .before .pre .1)))
+
+pub register-start-spec : {M : Type 1} → statement M
+register-start-spec =
+    tie.close
+    (tie.spec
+    Inv-loop
+    μ-loop
+    class-width-requires
+    mul-a
+    add-a
+    loop-holds
+    usable-in-requires
+    register-width-requires
+    add-a-2
+    add-i
+    loop-less
+    loop-again
+    returns)

@@ -1,0 +1,85 @@
+// Where each part of the words starts, and how many words it has, under settings that are in bounds.
+use crate::bounds;
+use crate::codes;
+use crate::spans;
+use model::Class;
+use model::Settings;
+use model::Shares;
+use model::Usable;
+ghost use mathlib.Core.Path.{_≡_};
+ghost use mathlib.Core.Bool.{true};
+ghost use Prim.Native.Nat.{_+_, _*_, _<_, _≤_};
+ghost use Rattle.model.specs.Settings.{settings-fit, shares-fit, usable-fit, usable-at, words-needed};
+ghost use Rattle.model.specs.Words.{class-width as class-words, class-start as class-from, ring-width as ring-words, register-width as register-words, ring-start as ring-from, register-start as register-from};
+
+// The words that the settings need.
+pub fn needed(s: Settings) -> usize
+    requires { ⌜ settings-fit s ≡ true ⌝ }
+    ensures { λ n. ⌜ n ≡ words-needed s ⌝ }
+{
+    bounds::words_needed(s) as usize
+}
+
+// The words of a class in the book: four of totals, and P places.
+pub fn class_width(b: Shares) -> usize
+    requires { ⌜ shares-fit b ≡ true ⌝ }
+    ensures { λ n. ⌜ (n ≡ class-words b) × (n ≤ 65_796) ⌝ }
+{
+    let place = 2 * (b.pairs as usize) + 4;
+    4 + (b.places as usize) * place
+}
+
+// Where a class starts.
+pub fn class_start(s: Settings, class: Class) -> usize
+    requires { ⌜ settings-fit s ≡ true ⌝ }
+    ensures { λ a. ⌜ (a ≡ class-from s class) × (a + class-words (s .shares) ≤ words-needed s) ⌝ }
+{
+    let width = class_width(s.shares);
+    let number = codes::class_number(class) as usize;
+    20 + number * width
+}
+
+// The words of one class's ring.
+pub fn ring_width(u: Usable) -> usize
+    requires { ⌜ usable-fit u ≡ true ⌝ }
+    ensures { λ n. ⌜ (n ≡ ring-words u) × (n ≤ 263_168) ⌝ }
+{
+    let ring = spans::ring_of(u) as usize;
+    ring * ((u.slots as usize) + 4)
+}
+
+// The words of a register: its own, and three rings.
+pub fn register_width(u: Usable) -> usize
+    requires { ⌜ usable-fit u ≡ true ⌝ }
+    ensures { λ n. ⌜ (n ≡ register-words u) × (n ≤ 789_528) ⌝ }
+{
+    let ring = ring_width(u);
+    24 + 3 * ring
+}
+
+// Where a class's ring starts within its register.
+pub fn ring_start(u: Usable, class: Class) -> usize
+    requires { ⌜ usable-fit u ≡ true ⌝ }
+    ensures { λ a. ⌜ (a ≡ ring-from u class) × (a + ring-words u ≤ register-words u) ⌝ }
+{
+    let width = ring_width(u);
+    let number = codes::class_number(class) as usize;
+    24 + number * width
+}
+
+// Where a register starts: after the front, the book, and the registers before it.
+pub fn register_start(s: Settings, register: usize) -> usize
+    requires { ⌜ (settings-fit s ≡ true) × (register < s .registers) ⌝ }
+    ensures { λ a. ⌜ (a ≡ register-from s register) × (a + register-words (usable-at s register) ≤ words-needed s) ⌝ }
+{
+    let width = class_width(s.shares);
+    let mut a = 20 + 3 * width;
+    let mut i = 0;
+    while i < register {
+        let u = bounds::usable_in(s, i);
+        let more = register_width(u);
+        a += more;
+        i += 1;
+    }
+    a
+}
