@@ -8,9 +8,6 @@ use lib.Dec.{leb}
 use borrow.Author.Tests.{leb-true, not-true}
 use Rattle.model.specs.declared.Answer.the-variants.{Said}
 use Rattle.model.specs.declared.Verdict.the-variants.{New}
-use Rattle.runs.specs.Words.{zeros, sameWords, pad}
-use Rattle.runs.specs.Chunks.{flat}
-use Rattle.runs.specs.Combine.{EachOk, wideRow, encRow, readRow, testRow, encUp, readUp, testUp}
 use Rattle.runs.proofs.Cases.{no, allOf, each-true}
 use Rattle.model.specs.Numbers.{compute-numbers}
 use Rattle.model.specs.Settings.{compute-settings, usable-at}
@@ -20,16 +17,11 @@ use Rattle.model.specs.Book.{compute-book, together, fair, below-share, 
 use Rattle.model.specs.Register.{compute-register}
 use Rattle.model.specs.Judge.{compute-judge, Ask, bucket-of}
 use Rattle.model.specs.Dump.{compute-dump}
-use Rattle.model.specs.Codes.{compute-codes}
-use Rattle.model.specs.BookWords.{read-pairs, pairs-sound, place-sound, used-place, has-place, distinct}
-use Rattle.model.specs.RegisterWords.{heading-sound}
-use Rattle.model.specs.GenerationWords.{reached-from, generation-sound}
-use Rattle.model.specs.Words.{front-sound}
-use Rattle.model.specs.Soundness.{went-through}
+use Rattle.model.specs.Codes.{compute-codes, went-through}
 use Rattle.model.specs.Calls.{compute-calls, On, Ticket, judged, taken, taken-batch, ask-of, register-at, reply}
 use Rattle.model.specs.View.{words-after}
 use Rattle.model.specs.EqualPart.{compute-equal-part, Since, since-opening, met, places-beside, Due, answer-due}
-use Rattle.model.specs.EqualPartCases.{settings, start, Case, three-parties, another-bucket, answers, heard-of-three, found, yields}
+use Rattle.model.specs.EqualPartCases.{compute-words, settings, start, Case, three-parties, another-bucket, answers, heard-of-three, found, yields}
 use Rattle.model.proofs.EqualPartWords.{equal-part}
 
 -- the conditions as tests, for computing once
@@ -48,12 +40,7 @@ unfoldable passes : Option Since → Ask → Bool
 passes none a = false
 passes (some x) a = allOf (x .unchanged) (tests x a)
 
--- all that words are tested, read and written by
-unfoldable compute-words : ℕ
-unfolding zeros sameWords pad flat EachOk wideRow encRow readRow testRow encUp readUp testUp read-pairs pairs-sound place-sound used-place has-place distinct heading-sound reached-from generation-sound front-sound
-compute-words = 0
-
--- and all rules
+-- all rules
 unfoldable compute-all : ℕ
 unfolding compute-words compute-numbers compute-settings compute-class compute-generation compute-book compute-register compute-judge compute-dump compute-codes compute-calls compute-equal-part went-through answers yields tests passes
 compute-all = 0

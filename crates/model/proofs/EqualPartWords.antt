@@ -1,26 +1,27 @@
 -- Equal part, of any list of calls on any words (specs/EqualPart). Kept along the list: the words hold what the rules yield since the
 -- opening, and while the limits stay any one holder of a class has at most T units and any two at most T and half of it.
 use mathlib.Core.Path.{_≡_, refl, ap, sym, _∙_, subst}
-use mathlib.Core.Bool.{true, false}
+use mathlib.Core.Bool.{true, false, _&&_}
 use mathlib.Core.List.{List, [], _∷_, _++_}
 use mathlib.Core.Option.{Option, none, some}
 use Prim.Native.Nat.{ℕ, _≤_}
-use lib.Dec.{eqb}
+use lib.Dec.{eqb, leb}
 use lib.ListN.{length}
-use borrow.Author.Tests.{eqb-true}
+use borrow.Author.Tests.{eqb-true, leb-true}
 use Rattle.model.specs.declared.Answer.the-variants.{Refused, Said}
 use Rattle.model.specs.declared.Verdict.the-variants.{New}
 use Rattle.model.specs.declared.Settings.{Settings}
 use Rattle.model.specs.declared.Shares.{Shares}
-use Rattle.runs.proofs.Cases.{by-test, both-true, no}
+use Rattle.runs.proofs.Cases.{by-test, both-true, each-true, no}
 use Rattle.model.specs.Settings.{settings-of, limits-of, usable-at, settings-fit, words-needed}
 use Rattle.model.specs.Book.{Place, together, places-of}
 use Rattle.model.specs.Words.{State}
 use Rattle.model.specs.Judge.{judge, take, take-batch}
 use Rattle.model.specs.Calls.{Asking, Manner, judged, taken, taken-batch, Ticket, Call, Open, On, Expire, SetLimits, Close, HeldBy, ClassTotals, ask-of, register-at, opened, after-judged, after-taken, asked, done-on, step, codes-fit, deed-fits, unfit, is-open, sound, unsound, no-such-register, late-deed, late, held-in, refused, reply, after}
-use Rattle.model.specs.View.{Given, answered, left-by, words-after}
-use Rattle.model.specs.Soundness.{went-through, Vetted}
-use Rattle.model.specs.EqualPart.{Since, limits-stay, and-then, gone-through, heard, since-opening, Due, answer-due, Gets, EqualPart, WordsHold, OpeningHolds, cost, HoldersKept, SharesKept}
+use Rattle.model.specs.View.{kept-settings, view, Given, answered, left-by, words-after}
+use Rattle.model.specs.Codes.{went-through}
+use Rattle.model.specs.Soundness.{Vetted}
+use Rattle.model.specs.EqualPart.{Since, limits-stay, and-then, gone-through, heard, since-opening, answer-due, Promised, EqualPart, WordsHold, OpeningHolds, cost, HoldersKept, SharesKept}
 use Rattle.model.proofs.Refusals.{step-through}
 use Rattle.model.proofs.View.{Trimmed, brought-trimmed, kept-are, view-sound}
 use Rattle.model.proofs.Simulates.{refused-words, entered, fit-settings, reply-is, through-is, through-zero, simulates}
@@ -38,7 +39,7 @@ pub record Tied (x : Since) (ws : List ℕ) : Type 0 where
   pub holds : held-in (x .settings) ws ≡ x .state
   pub bounded : x .unchanged ≡ true → Bounded (x .settings .shares) (x .state .book)
 
-abbrev TiedIf : Option Since → List ℕ → Type 0
+abbrev pub TiedIf : Option Since → List ℕ → Type 0
 TiedIf none ws = Unit {0}
 TiedIf (some x) ws = Tied x ws
 
@@ -60,7 +61,7 @@ vetted-before : (st ws : List ℕ) (call : Call) → is-open call ≡ false → 
 vetted-before st ws call shut through =
     let e = entered st ws call (through-zero st ws call through) in record { fit = e .fit; long = e .long; sound = e .vets shut }
 
-refused-stays : (st ws : List ℕ) (call : Call) → went-through (reply st ws call) ≡ false → after st ws call ≡ ws
+pub refused-stays : (st ws : List ℕ) (call : Call) → went-through (reply st ws call) ≡ false → after st ws call ≡ ws
 refused-stays st ws call h =
     let s = settings-of st in
     let t = held-in s ws in
@@ -101,7 +102,7 @@ module _ (st ws : List ℕ) (r : ℕ) (a : Asking) (passed : eqb (refused st ws 
   take-batch-says = rw (as-refused taken-batch st ws r a, passed)
 
 -- ---- an opening ties the words to what it opens
-opening-ties : (ws st limits starts : List ℕ) → went-through (reply st ws (Open limits starts)) ≡ true
+pub opening-ties : (ws st limits starts : List ℕ) → went-through (reply st ws (Open limits starts)) ≡ true
     → Tied (record { settings = settings-of st; state = opened (settings-of st) limits starts; unchanged = true }) (after st ws (Open limits starts))
 unfolding step opened
 opening-ties ws st limits starts through =
@@ -122,7 +123,7 @@ unfolding step
 opening-holds st ws limits starts through = simulates ws (record { settings = st; call = Open limits starts }) through .seen
 
 -- ---- any later call that went through leaves them tied
-later-ties : (x : Since) (ws : List ℕ) (g : Given) → is-open (g .call) ≡ false → went-through (answered ws g) ≡ true → Tied x ws
+pub later-ties : (x : Since) (ws : List ℕ) (g : Given) → is-open (g .call) ≡ false → went-through (answered ws g) ≡ true → Tied x ws
     → TiedIf (and-then (g .call) (some x)) (left-by ws g)
 later-ties x ws g shut through t =
     let m = simulates ws g through in
@@ -160,14 +161,13 @@ unfolding heard
 call-ties k ws g t =
     by-test (went-through (answered ws g)) (λ h. rw h (through-ties k ws (g .settings) (g .call) h t)) (λ h. rw (h, refused-stays (g .settings) ws (g .call) h) t)
 
-list-ties : (gs : List Given) (k : Option Since) (ws : List ℕ) → TiedIf k ws → TiedIf (since-opening k ws gs) (words-after ws gs)
+pub list-ties : (gs : List Given) (k : Option Since) (ws : List ℕ) → TiedIf k ws → TiedIf (since-opening k ws gs) (words-after ws gs)
 unfolding since-opening words-after
 list-ties [] k ws t = t
 list-ties (g ∷ gs) k ws t = list-ties gs (heard g (answered ws g) k) (left-by ws g) (call-ties k ws g t)
 
 -- ---- the promise, on words that are tied
-due : (x : Since) (ws : List ℕ) → Tied x ws → x .unchanged ≡ true → (st : List ℕ) (r : ℕ) (a : Asking) → reply st ws (On r (Ticket judged a)) ≡ Said New
-    → Due (usable-at (x .settings) r) (x .settings .shares) (register-at r (x .state)) (x .state .book) (ask-of a) → Gets x ws st r a
+pub due : (x : Since) (ws : List ℕ) → Tied x ws → Promised x ws
 unfolding went-through is-open answer-due
 due x ws t unchanged st r a says d =
     let n = judged-new st ws r a says in
@@ -192,8 +192,7 @@ tied-after start calls x e = subst (λ (k : Option Since). TiedIf k (words-after
 
 -- demand 3, second half
 pub equal-part : (start : List ℕ) (calls : List Given) → EqualPart start calls
-equal-part start calls x e unchanged st r a says d =
-    due x (words-after start calls) (tied-after start calls x e) unchanged st r a says d
+equal-part start calls x e = due x (words-after start calls) (tied-after start calls x e)
 
 -- ---- beside it
 pub words-hold : (start : List ℕ) (calls : List Given) → WordsHold start calls
@@ -218,3 +217,21 @@ holders-kept b limit ps h = record {
 pub shares-kept : (start : List ℕ) (calls : List Given) → SharesKept start calls
 shares-kept start calls x e unchanged c =
     holders-kept (x .settings .shares) (together (x .state .book .limits) c) (places-of c (x .state .book)) (tied-after start calls x e .bounded unchanged c)
+
+-- ---- what `view` reads is read under the settings that the words keep
+pub record Read (ws : List ℕ) (t : State) : Type 0 where
+  pub fit : settings-fit (kept-settings ws) ≡ true
+  pub long : words-needed (kept-settings ws) ≤ length ws
+  pub sound : sound (kept-settings ws) ws ≡ true
+  pub holds : held-in (kept-settings ws) ws ≡ t
+
+pub view-read : (ws : List ℕ) (t : State) → view ws ≡ some t → Read ws t
+unfolding view
+view-read ws t e =
+    let k = kept-settings ws in
+    by-test (settings-fit k && (leb (words-needed k) (length ws) && sound k ws))
+    (λ p.
+    let q = each-true (settings-fit k) (leb (words-needed k) (length ws) ∷ sound k ws ∷ []) p in
+    let h : some (held-in k ws) ≡ some t = rw p at e in
+    record { fit = q .0; long = leb-true (words-needed k) (length ws) (q .1 .0); sound = q .1 .1; holds = (cc) })
+    (λ p. let h : none ≡ some t = rw p at e in no (cc))

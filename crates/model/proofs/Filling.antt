@@ -134,7 +134,3 @@ module _ (most : ℕ) (d : Dumped) (all rest : List ℕ) (fp : ℕ) (g : Generat
         prints = λ y q. rw (i .holds y q, e) (or-moved (eqb y fp) (among y s) (among y rest) ∙ f .prints y q);
         newest = (let k = one-newest d fp g in let m = f .newest in omega arith);
       }
-
-  -- under the dump's newest stamp
-  pub filled-newest : inserted-one d fp g .newest ≡ d .newest
-  filled-newest = one-newest d fp g ∙ (let m = f .newest in omega arith)

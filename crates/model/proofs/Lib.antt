@@ -42,3 +42,5 @@ pub mod NotVacuous
 pub mod NotNew
 pub mod EqualPartCases
 pub mod RoundTripCases
+pub mod Untouched
+pub mod EqualPartAmong

@@ -17,7 +17,8 @@ use Rattle.model.specs.Judge.{bucket-of}
 use Rattle.model.specs.Words.{State}
 use Rattle.model.specs.Calls.{Call, Open, On, Expire, SetLimits, Close, HeldBy, ClassTotals, is-open, sound, register-at, step, held-in, refused, reply, after}
 use Rattle.model.specs.View.{Given, answered, left-by, words-after}
-use Rattle.model.specs.Soundness.{went-through, Vetted}
+use Rattle.model.specs.Codes.{went-through}
+use Rattle.model.specs.Soundness.{Vetted}
 use Rattle.model.specs.Once.{Strike, Kind, kind, asks-about, takes, remakes, remade-by, remade-among, NoTicketTwice, Moment, Answered, Accepted, CalledNew, remade, unless, Never, Once, moments, Event, Calls, Replaces, Aside, LeavesAlone, left-by-event, event-moments, all-moments, AllAside, NoTicketTwiceAmong}
 use Rattle.model.proofs.Choice.{or-false, and-false, true-false}
 use Rattle.model.proofs.Struck.{Struck}

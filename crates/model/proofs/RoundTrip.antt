@@ -1,31 +1,33 @@
 -- The round trip on words and bytes (specs/RoundTrip): what the dump call wrote is what the restore call reads.
 use mathlib.Core.Path.{_≡_, refl, ap, sym, _∙_, subst}
-use mathlib.Core.Bool.{true, _&&_}
-use mathlib.Core.List.{List, [], _∷_, _++_}
-use mathlib.Core.Option.{none, some}
+use mathlib.Core.Bool.{true}
+use mathlib.Core.List.{List, _++_}
+use mathlib.Core.Option.{some}
 use Prim.Native.Nat.{ℕ, _+_, _*_, _≤_, _<_}
 use native.Mathlib.Omega.{arith}
-use lib.Dec.{eqb, leb}
+use lib.Dec.{eqb}
 use lib.ListN.{length, drop}
 use lib.Seq.{take-at, getD-set-same}
-use borrow.Author.Tests.{eqb-true, leb-true, leb-false, lt-leb, le-ltb}
+use borrow.Author.Tests.{eqb-true, leb-false, lt-leb, le-ltb}
 use Rattle.model.specs.declared.Answer.the-variants.{Refused, Dumped, Whole}
 use Rattle.model.specs.declared.Settings.{Settings}
 use Rattle.model.specs.declared.Usable.{Usable}
 use Rattle.model.specs.declared.Start.the-variants.{Empty}
-use Rattle.runs.proofs.Cases.{by-test, each-true, no}
+use Rattle.runs.proofs.Cases.{by-test, no}
 use Rattle.runs.proofs.Each.{each-at}
-use Rattle.model.specs.Settings.{settings-of, usable-at, settings-fit, words-needed}
+use Rattle.model.specs.Settings.{settings-of, usable-at, words-needed}
 use Rattle.model.specs.Register.{Register, started}
 use Rattle.model.specs.Dump.{dump-words, dump-bytes, Dump, read-dump, Restoring, restore}
 use Rattle.model.specs.RegisterWords.{register-form}
 use Rattle.model.specs.Words.{State, front-form, book-form, registers-form, state-form, of-state}
 use Rattle.model.specs.Calls.{On, DumpTo, Restore, Step, no-register, register-at, after-restored, restored, done-on, step, codes-fit, deed-fits, settings-words-fit, unfit, too-short, is-open, sound, unsound, no-such-register, is-cut, late-deed, late, first-met, held-in, refused, reply, output-of, dumped-by, output-after}
 use Rattle.model.specs.View.{kept-settings, view}
-use Rattle.model.specs.Soundness.{went-through, Vetted}
+use Rattle.model.specs.Codes.{went-through}
+use Rattle.model.specs.Soundness.{Vetted}
 use Rattle.model.specs.RoundTrip.{EnoughRoom, BroughtBack, Words64, written, Returns, RoundTrip}
 use Rattle.model.proofs.View.{sound-holds, brought-trimmed, view-sound}
 use Rattle.model.proofs.Simulates.{entered, fit-settings, vetted-ok, reply-is, simulates}
+use Rattle.model.proofs.EqualPartWords.{view-read}
 use Rattle.model.proofs.BytesRead.{bytes-long}
 use Rattle.model.proofs.DumpRead.{dump-of, dump-back}
 use Rattle.model.proofs.RestoredWhole.{WholeBack, whole-back}
@@ -150,22 +152,15 @@ module _ (st vs : List ℕ) (q : ℕ) (v : Vetted st vs) (low : q < settings-of 
 -- ---- what `view` reads is what the calls find
 view-vetted : (st ws : List ℕ) (t : State) → view ws ≡ some t → settings-words-fit st ≡ true → kept-settings ws ≡ settings-of st
     → Vetted st ws × (held-in (settings-of st) ws ≡ t)
-unfolding view
 view-vetted st ws t e fit kept =
-    let k = kept-settings ws in
-    by-test (settings-fit k && (leb (words-needed k) (length ws) && sound k ws))
-    (λ p.
-    let q = each-true (settings-fit k) (leb (words-needed k) (length ws) ∷ sound k ws ∷ []) p in
-    let h : some (held-in k ws) ≡ some t = rw p at e in
-    let holds : held-in k ws ≡ t = cc in (
+    let r = view-read ws t e in (
       record {
         fit = fit;
-        long = subst (λ (x : Settings). words-needed x ≤ length ws) kept (leb-true (words-needed k) (length ws) (q .1 .0));
-        sound = subst (λ (x : Settings). sound x ws ≡ true) kept (q .1 .1);
+        long = subst (λ (x : Settings). words-needed x ≤ length ws) kept (r .long);
+        sound = subst (λ (x : Settings). sound x ws ≡ true) kept (r .sound);
       },
-      subst (λ (x : Settings). held-in x ws ≡ t) kept holds,
-    ))
-    (λ p. let h : none ≡ some t = rw p at e in no (cc))
+      subst (λ (x : Settings). held-in x ws ≡ t) kept (r .holds),
+    )
 
 pub vetted-seen : (st ws : List ℕ) → Vetted st ws → view ws ≡ some (held-in (settings-of st) ws)
 vetted-seen st ws v = let fit = fit-settings st (v .fit) in view-sound (settings-of st) fit (brought-trimmed st fit) ws (v .long) (v .sound)

@@ -12,9 +12,6 @@ use Rattle.model.specs.declared.Class.{Class}
 use Rattle.model.specs.declared.Class.the-variants.{Feeders, Peers, Own}
 use Rattle.model.specs.declared.Start.the-variants.{Empty}
 use Rattle.model.specs.declared.Answer.the-variants.{Dumped, Whole}
-use Rattle.runs.specs.Words.{zeros, sameWords, pad}
-use Rattle.runs.specs.Chunks.{flat}
-use Rattle.runs.specs.Combine.{EachOk, wideRow, encRow, readRow, testRow, encUp, readUp, testUp}
 use Rattle.runs.proofs.Cases.{both-true}
 use Rattle.model.specs.Numbers.{compute-numbers, top64}
 use Rattle.model.specs.Settings.{compute-settings, settings-of, usable-at}
@@ -24,14 +21,12 @@ use Rattle.model.specs.Book.{compute-book, Book, together, places-of}
 use Rattle.model.specs.Register.{compute-register, Register, started}
 use Rattle.model.specs.Judge.{compute-judge}
 use Rattle.model.specs.Dump.{compute-dump, dump-words}
-use Rattle.model.specs.Codes.{compute-codes}
-use Rattle.model.specs.BookWords.{read-pairs, pairs-sound, place-sound, used-place, has-place, distinct}
-use Rattle.model.specs.RegisterWords.{heading-sound}
-use Rattle.model.specs.GenerationWords.{reached-from, generation-sound}
-use Rattle.model.specs.Words.{front-sound, State}
-use Rattle.model.specs.Soundness.{went-through, Vetted}
+use Rattle.model.specs.Codes.{compute-codes, went-through}
+use Rattle.model.specs.Words.{State}
+use Rattle.model.specs.Soundness.{Vetted}
 use Rattle.model.specs.Calls.{compute-calls, On, Restore, register-at, held-in, reply, after}
 use Rattle.model.specs.View.{words-after}
+use Rattle.model.specs.EqualPartCases.{compute-words}
 use Rattle.model.specs.RoundTrip.{seconds-in, pairs-with, new-units, RoomFor, EnoughRoom, Words64, Source, written, Target, Returns}
 use Rattle.model.specs.RoundTripCases.{source-settings, source-words, output, dump-call, target-settings, target-words}
 use Rattle.model.proofs.Simulates.{vetted-kept}
@@ -39,7 +34,7 @@ use Rattle.model.proofs.RoundTrip.{vetted-seen, round-trip}
 
 -- all that words are tested, read and written by, and all rules
 unfoldable compute-all : ℕ
-unfolding zeros sameWords pad flat EachOk wideRow encRow readRow testRow encUp readUp testUp read-pairs pairs-sound place-sound used-place has-place distinct heading-sound reached-from generation-sound front-sound compute-numbers compute-settings compute-class compute-generation compute-book compute-register compute-judge compute-dump compute-codes compute-calls went-through words-after seconds-in pairs-with new-units
+unfolding compute-words compute-numbers compute-settings compute-class compute-generation compute-book compute-register compute-judge compute-dump compute-codes compute-calls went-through words-after seconds-in pairs-with new-units
 compute-all = 0
 
 unfoldable all-small : List ℕ → Bool

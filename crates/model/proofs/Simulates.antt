@@ -18,7 +18,8 @@ use Rattle.model.specs.Settings.{settings-width, settings-of, settings-f
 use Rattle.model.specs.Words.{State, state-form}
 use Rattle.model.specs.Calls.{Call, Open, On, Expire, SetLimits, Close, HeldBy, ClassTotals, step, codes-fit, settings-words-fit, unfit, too-short, is-open, sound, unsound, no-such-register, first-met, held-in, refused, reply, after}
 use Rattle.model.specs.View.{kept-settings, view}
-use Rattle.model.specs.Soundness.{went-through, Vetted, Simulation}
+use Rattle.model.specs.Codes.{went-through}
+use Rattle.model.specs.Soundness.{Vetted, Simulation}
 use Rattle.model.proofs.Choice.{or-cases, true-false}
 use Rattle.model.proofs.Words.{state-exact, state-wide}
 use Rattle.model.proofs.View.{brought-trimmed, sound-holds, written, kept-are, view-written}

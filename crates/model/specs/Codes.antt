@@ -74,6 +74,24 @@ answer-values (SweptTo b ms) = b ∷ ms ∷ []
 answer-values (Entries n) = n ∷ []
 answer-values (Totals e h u x) = e ∷ h ∷ u ∷ x ∷ []
 
+-- "A call went through if it got no refusal number; Partly counts."
+unfoldable pub went-through : Answer → Bool
+went-through (Refused n) = false
+went-through Done = true
+went-through (Said v) = true
+went-through Yes = true
+went-through No = true
+went-through Begun = true
+went-through Already = true
+went-through (Dumped n) = true
+went-through (Whole n) = true
+went-through (Partly n) = true
+went-through NoFloor = true
+went-through (FloorAt f) = true
+went-through (SweptTo b ms) = true
+went-through (Entries n) = true
+went-through (Totals e h u x) = true
+
 -- a draw's answer, in the order in which the rules are tried
 unfoldable pub draw-number : Draw → ℕ
 draw-number Granted = 0
@@ -87,5 +105,5 @@ draw-number Pairs = 7
 
 -- the rules of this file, for a theorem that computes
 unfoldable pub compute-codes : ℕ
-unfolding start-of verdict-number answer-number answer-values draw-number
+unfolding start-of verdict-number answer-number answer-values went-through draw-number
 compute-codes = 0

@@ -32,7 +32,7 @@ use Rattle.model.specs.Judge.{Ask, bucket-of}
 use Rattle.model.specs.Words.{State}
 use Rattle.model.specs.Calls.{Asking, judged, taken, taken-batch, Ticket, Call, Open, On, Expire, SetLimits, Close, HeldBy, ClassTotals, ask-of, register-at, opened, step, reply, after}
 use Rattle.model.specs.View.{view, Given, answered, left-by, words-after}
-use Rattle.model.specs.Soundness.{went-through}
+use Rattle.model.specs.Codes.{went-through}
 
 -- ---- what the rules yield from the arguments of the calls since the last opening. No lent word is read: the rules start from the
 -- opening's arguments, and go on with the arguments of each later call that went through
@@ -92,7 +92,7 @@ met u reg a = generation-at (pick (class-of (a .who)) (sweep u (a .ms) reg .ring
 unfoldable pub taken-by-another : Usable → Register → Ask → Bool
 taken-by-another u reg a = not (eqb (met u reg a .bucket) (bucket-of u (a .stamp))) && not (eqb (held (met u reg a)) 0)
 
--- a deliverer's class
+-- the places of the deliverer's class
 abbrev pub places-beside : Ask → Book → List Place
 places-beside a k = places-of (class-of (a .who)) k
 
@@ -117,12 +117,13 @@ pub record Gets (x : Since) (ws st : List ℕ) (r : ℕ) (a : Asking) : Type 0 w
   pub from-take : reply st ws (On r (Ticket taken a)) ≡ answer-due (usable-at (x .settings) r) (register-at r (x .state)) (ask-of a)
   pub from-take-batch : reply st ws (On r (Ticket taken-batch a)) ≡ answer-due (usable-at (x .settings) r) (register-at r (x .state)) (ask-of a)
 
+abbrev pub Promised : Since → List ℕ → Type 0
+Promised x ws =
+    x .unchanged ≡ true → (st : List ℕ) (r : ℕ) (a : Asking) → reply st ws (On r (Ticket judged a)) ≡ Said New
+    → Due (usable-at (x .settings) r) (x .settings .shares) (register-at r (x .state)) (x .state .book) (ask-of a) → Gets x ws st r a
+
 abbrev pub EqualPart : List ℕ → List Given → Type 0
-EqualPart start calls =
-    (x : Since) → since-opening none start calls ≡ some x → x .unchanged ≡ true
-    → (st : List ℕ) (r : ℕ) (a : Asking) → reply st (words-after start calls) (On r (Ticket judged a)) ≡ Said New
-    → Due (usable-at (x .settings) r) (x .settings .shares) (register-at r (x .state)) (x .state .book) (ask-of a)
-    → Gets x (words-after start calls) st r a
+EqualPart start calls = (x : Since) → since-opening none start calls ≡ some x → Promised x (words-after start calls)
 
 -- ---- beside it
 -- the words hold what the rules yield since the opening; so right after an opening that went through they hold what it opened

@@ -10,9 +10,15 @@ use Rattle.model.specs.declared.Verdict.{Verdict}
 use Rattle.model.specs.declared.Verdict.the-variants.{New, Late}
 use Rattle.model.specs.declared.Answer.{Answer}
 use Rattle.model.specs.declared.Answer.the-variants.{Done, Said, Whole, Partly, Totals}
+use Rattle.runs.specs.Words.{zeros, sameWords, pad}
 use Rattle.runs.specs.Chunks.{flat}
+use Rattle.runs.specs.Combine.{EachOk, wideRow, encRow, readRow, testRow, encUp, readUp, testUp}
 use Rattle.model.specs.Settings.{settings-of}
 use Rattle.model.specs.Dump.{word-bytes}
+use Rattle.model.specs.BookWords.{read-pairs, pairs-sound, place-sound, used-place, has-place, distinct}
+use Rattle.model.specs.RegisterWords.{heading-sound}
+use Rattle.model.specs.GenerationWords.{reached-from, generation-sound}
+use Rattle.model.specs.Words.{front-sound}
 use Rattle.model.specs.Calls.{Asking, Ticket, taken, Restore, Call, Open, On, Expire, SetLimits, ClassTotals, opened}
 use Rattle.model.specs.View.{Given, answered, left-by}
 use Rattle.model.specs.EqualPart.{Since, since-opening}
@@ -87,3 +93,8 @@ found (some x) = x
 
 unfoldable pub yields : Case → Since
 yields c = found (since-opening none start (c .calls))
+
+-- all that words are tested, read and written by, for a theorem that computes
+unfoldable pub compute-words : ℕ
+unfolding zeros sameWords pad flat EachOk wideRow encRow readRow testRow encUp readUp testUp read-pairs pairs-sound place-sound used-place has-place distinct heading-sound reached-from generation-sound front-sound
+compute-words = 0

@@ -25,3 +25,4 @@ pub mod Growing
 pub mod NotNew
 pub mod EqualPartCases
 pub mod RoundTripCases
+pub mod EqualPartAmong

@@ -17,7 +17,8 @@ use Rattle.model.specs.Settings.{settings-of}
 use Rattle.model.specs.Generation.{as-read}
 use Rattle.model.specs.Calls.{Manner, judged, judged-batch, taken, taken-batch, Asking, Deed, Ticket, ContainsHash, Begin, Sweep, DumpTo, Restore, Resume, Floor, Pending, SweptBucket, Call, Open, On, Expire, SetLimits, Close, HeldBy, ClassTotals, register-at, held-in}
 use Rattle.model.specs.View.{Given, answered, left-by, words-after}
-use Rattle.model.specs.Soundness.{went-through, Vetted}
+use Rattle.model.specs.Codes.{went-through}
+use Rattle.model.specs.Soundness.{Vetted}
 
 -- a ticket on a register; the fingerprint as it is read
 pub record Strike : Type 0 where

@@ -2,15 +2,17 @@
 -- the same settings. It answers Whole with the dump's length as the bytes read, whatever bytes follow, and brings back for each class
 -- the same fingerprints, buckets and newest stamps, and the floor unless that is 2^64 − 1. The customer's sentences:
 --
+-- "Proved: .. a dump restored into a newly opened register brings back what it held."
+--
 -- "Little-endian 64-bit words: floor (0 none, else floor + 1, capped); per class a count, then held generations by position: bucket,
 -- newest, length, fingerprints by slot. Restore first reads the lengths (7 before any change), ignores trailing bytes, and returns bytes
 -- read and Whole or Partly."
 --
 -- "Enough room: book open; per class with entries in the dump, the limit covers present units, those entries and a new Restored place's
 -- units, a place is free and E covers its seconds with those already listed."
-use Prim.Native.Nat.{ℕ, _+_, _≤_, _<_}
+use Prim.Native.Nat.{ℕ, _+_, _*_, _≤_, _<_}
 use mathlib.Core.Path.{_≡_}
-use mathlib.Core.Bool.{true, false, cond}
+use mathlib.Core.Bool.{Bool, true, false, cond, not, _&&_}
 use mathlib.Core.List.{List, [], _∷_, _++_}
 use mathlib.Core.Option.{some}
 use lib.Dec.{eqb}
@@ -29,8 +31,9 @@ use Rattle.model.specs.Generation.{Generation, empty, held, among}
 use Rattle.model.specs.Book.{Pair, Place, Book, second-of, together, units, place-units, entries-of, pairs-of, place-free, add-pair, places-of}
 use Rattle.model.specs.Register.{Ring, Register, started}
 use Rattle.model.specs.Words.{State}
-use Rattle.model.specs.Calls.{On, DumpTo, Restore, register-at, settings-words-fit, reply, after, output-after}
-use Rattle.model.specs.View.{kept-settings, view}
+use Rattle.model.specs.Calls.{Call, Open, On, Expire, SetLimits, Close, HeldBy, ClassTotals, DumpTo, Restore, register-at, settings-words-fit, reply, after, output-after}
+use Rattle.model.specs.View.{kept-settings, view, Given, words-after}
+use Rattle.model.specs.Codes.{went-through}
 
 -- ---- enough room
 -- the entries of a class in the dump: the second of each
@@ -116,3 +119,25 @@ RoundTrip =
     → EnoughRoom (usable-at (settings-of st) r) (settings-of st₂ .shares) (t₂ .book) (register-at r t .rings)
     → (more : List ℕ)
     → (length (written st ws r out n) ≡ n) × Returns (register-at r t) (written st ws r out n) st₂ ws₂ q (written st ws r out n ++ more)
+
+-- ---- "untouched since its opening Empty": no call since then is an opening, or on that register
+unfoldable pub touches : ℕ → Call → Bool
+touches q (Open limits starts) = true
+touches q (On r d) = eqb q r
+touches q (Expire ms) = false
+touches q (SetLimits limits) = false
+touches q Close = false
+touches q (HeldBy kind number) = false
+touches q (ClassTotals c) = false
+
+unfoldable pub none-touches : ℕ → List Given → Bool
+none-touches q [] = true
+none-touches q (g ∷ gs) = not (touches q (g .call)) && none-touches q gs
+
+-- after an opening that went through with register q Empty (0), and any calls that do not touch it, its words hold it as it started
+abbrev pub StaysUntouched : Type 0
+StaysUntouched =
+    (start st limits starts : List ℕ) (calls : List Given) (q : ℕ) (t : State)
+    → went-through (reply st start (Open limits starts)) ≡ true → q < settings-of st .registers → getD starts (2 * q) 0 ≡ 0
+    → none-touches q calls ≡ true → view (words-after (after st start (Open limits starts)) calls) ≡ some t
+    → register-at q t ≡ started (usable-at (settings-of st) q) Empty

@@ -9,30 +9,12 @@ use mathlib.Core.List.{List}
 use lib.ListN.{length}
 use Rattle.model.specs.declared.Settings.{Settings}
 use Rattle.model.specs.declared.Answer.{Answer}
-use Rattle.model.specs.declared.Answer.the-variants.{Refused, Done, Said, Yes, No, Begun, Already, Dumped, Whole, Partly, NoFloor, FloorAt, SweptTo, Entries, Totals}
 use Rattle.runs.specs.Form.{Form}
 use Rattle.model.specs.Settings.{settings-of, settings-fit, words-needed}
 use Rattle.model.specs.Words.{State, state-form}
+use Rattle.model.specs.Codes.{went-through}
 use Rattle.model.specs.Calls.{Call, Open, opened, step, codes-fit, no-such-register, settings-words-fit, sound, held-in}
 use Rattle.model.specs.View.{view, Given, answered, left-by}
-
--- "A call went through if it got no refusal number; Partly counts."
-unfoldable pub went-through : Answer → Bool
-went-through (Refused n) = false
-went-through Done = true
-went-through (Said v) = true
-went-through Yes = true
-went-through No = true
-went-through Begun = true
-went-through Already = true
-went-through (Dumped n) = true
-went-through (Whole n) = true
-went-through (Partly n) = true
-went-through NoFloor = true
-went-through (FloorAt f) = true
-went-through (SweptTo b ms) = true
-went-through (Entries n) = true
-went-through (Totals e h u x) = true
 
 -- ---- on states: every call takes every well-formed state to a well-formed state, and an opening makes one
 -- the call's codes are listed and its register is there

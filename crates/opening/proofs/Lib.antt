@@ -1,0 +1,3 @@
+pub mod Blank
+pub mod Laid
+pub mod Steps

@@ -1,0 +1,60 @@
+-- Zeros, the front over the first of them, and the registers over theirs: that is the opened state in words (proofs/Laid).
+use Rattle.opening.proofs.Laid.{front-within, opened-run}
+use borrow.Author.Needs.{needs}
+use Rattle.opening.proofs.open.Statement.{statement}
+use Rattle.opening.proofs.open.Tie as tie
+use Rattle.opening.proofs.open.Reads as reads
+use Rattle.opening.proofs.open.Lts as lts
+use Rattle.opening.proofs.write_front.Reads as write-front-reads
+use Rattle.opening.proofs.write_registers.Reads as write-registers-reads
+use Rattle.runs.proofs.clear_words.Reads as clear-words-reads
+
+-- src/lib.rt:145:5
+clear-words-requires : tie.Need-clear-words-requires
+clear-words-requires c κs = search needs
+
+-- src/lib.rt:146:17
+sub-write-front : tie.Need-sub-write-front
+sub-write-front c = search needs
+
+-- src/lib.rt:146:17
+part-write-front-start : tie.Need-part-write-front-start
+part-write-front-start c = search needs
+
+-- src/lib.rt:146:17
+part-write-front-end : tie.Need-part-write-front-end
+part-write-front-end c = let k = front-within (c .before .before .before .before .before .before .args .s) in search needs
+
+-- src/lib.rt:146:5
+write-front-requires : tie.Need-write-front-requires
+write-front-requires c κs = search needs
+
+-- src/lib.rt:147:5
+write-registers-requires : tie.Need-write-registers-requires
+write-registers-requires c κs = search needs
+
+-- src/lib.rt:141:1
+same-length : tie.Need-same-length
+same-length c = search needs
+
+-- src/lib.rt:141:1
+returns : tie.Need-returns
+returns c =
+    let start = c .before .before .before .before .before .before .before .before .before .before .before .before .before .before in
+    opened-run (start .args .s) (start .args .limits) (start .args .starts .now) (start .args .run .now) _ _ _ (start .pre .0) (start .pre .1)
+    (c .before .before .before .before .before .before .before .before .before .before .clear-words .ensures)
+    (c .before .before .before .before .before .before .write-front .ensures)
+    (c .before .before .write-registers .ensures)
+
+pub open-spec : {M : Type 1} → statement M
+open-spec =
+    tie.close
+    (tie.spec
+    clear-words-requires
+    sub-write-front
+    part-write-front-start
+    part-write-front-end
+    write-front-requires
+    write-registers-requires
+    same-length
+    returns)
