@@ -1,0 +1,27 @@
+// The soundness test of one class of the share book, for every content whatsoever. A class is four words of totals and P places;
+// nothing is believed of them before it is tested, and no sum can wrap.
+use model::Class;
+use model::Shares;
+ghost use mathlib.Core.Path.{_≡_};
+ghost use mathlib.Core.Bool.{true};
+ghost use lib.ListN.{length};
+ghost use Rattle.model.specs.Settings.{shares-fit};
+ghost use Rattle.model.specs.BookWords.{class-form};
+ghost use Rattle.model.specs.Words.{class-width};
+
+mod apart;
+mod pairs;
+mod place;
+mod places;
+mod spot;
+
+// The words of a class are sound: used places first and each sound, zeros after them, deliverers distinct, `expired` 32-bit, and
+// the three totals are the sums.
+pub fn class_sound(part: &[u64], shares: Shares, class: Class) -> bool
+    requires { ⌜ (shares-fit shares ≡ true) × (length (now part) ≡ class-width shares) ⌝ }
+    ensures { λ r. ⌜ r ≡ class-form shares class .test (now (part .entry)) ⌝ }
+{
+    let sound = places::places_sound(&part[4..], shares, class, part[0], part[1], part[2]);
+    let distinct = apart::distinct(&part[4..], shares, class);
+    sound & (distinct & (part[3] <= 4294967295))
+}

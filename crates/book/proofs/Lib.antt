@@ -1,0 +1,12 @@
+pub mod Shifts
+pub mod PairWords
+pub mod PairLists
+pub mod Judging
+pub mod PlaceTurns
+pub mod ClassWords
+pub mod ClassLists
+pub mod Finding
+pub mod Spots
+pub mod Entering
+pub mod Returning
+pub mod Keeping

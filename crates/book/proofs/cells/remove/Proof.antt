@@ -1,0 +1,67 @@
+use Rattle.book.proofs.PairWords.{removes}
+use Rattle.book.specs.Pairs.{before}
+use Rattle.runs.specs.Turns.{Reads}
+use borrow.Author.Needs.{needs}
+use mathlib.Core.Path.{refl}
+use borrow.Author.Needs.{needs}
+use Rattle.book.proofs.cells.remove.Statement.{statement}
+use Rattle.book.proofs.cells.remove.Tie as tie
+use Rattle.book.proofs.cells.remove.Reads as reads
+use Rattle.book.proofs.cells.remove.Lts as lts
+use Rattle.book.proofs.moves.close_up.Reads as close-up-reads
+
+-- src/cells.rt:99:13
+mul-a : tie.Need-mul-a
+mul-a c = search needs
+
+-- src/cells.rt:100:13
+mul-e : tie.Need-mul-e
+mul-e c = search needs
+
+-- src/cells.rt:101:28
+mul-close-up : tie.Need-mul-close-up
+mul-close-up c = search needs
+
+-- src/cells.rt:101:28
+sub-close-up : tie.Need-sub-close-up
+sub-close-up c = search needs
+
+-- src/cells.rt:101:28
+part-close-up-start : tie.Need-part-close-up-start
+part-close-up-start c = search needs
+
+-- src/cells.rt:101:28
+part-close-up-end : tie.Need-part-close-up-end
+part-close-up-end c = search needs
+
+-- src/cells.rt:101:46
+mul-close-up-2 : tie.Need-mul-close-up-2
+mul-close-up-2 c = search needs
+
+-- src/cells.rt:101:5
+close-up-requires : tie.Need-close-up-requires
+close-up-requires c κs = search needs
+
+-- src/cells.rt:95:1
+same-length : tie.Need-same-length
+same-length c = search needs
+
+-- src/cells.rt:95:1
+returns : tie.Need-returns
+returns c = let s = c .before .before .before .before .before .args in
+    removes (s .n) (s .k) (s .m) _ _ _ (s .cells .now) _ refl refl refl (c .before .before .close-up .ensures)
+
+pub remove-spec : {M : Type 1} → statement M
+remove-spec =
+    tie.close
+    (tie.spec
+    mul-a
+    mul-e
+    mul-close-up
+    sub-close-up
+    part-close-up-start
+    part-close-up-end
+    mul-close-up-2
+    close-up-requires
+    same-length
+    returns)

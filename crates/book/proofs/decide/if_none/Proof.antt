@@ -1,0 +1,18 @@
+use Rattle.book.specs.Sums.{taken}
+use Rattle.runs.specs.Turns.{Reads}
+use borrow.Author.Tests.{eq-eqb, ne-eqb}
+use Rattle.book.proofs.decide.if_none.Statement.{statement}
+use Rattle.book.proofs.decide.if_none.Tie as tie
+use Rattle.book.proofs.decide.if_none.Reads as reads
+use Rattle.book.proofs.decide.if_none.Lts as lts
+
+-- src/decide.rt:14:9
+returns : tie.Need-returns
+returns c = rw (eq-eqb _ _ (c .if1 .taken))
+
+-- src/decide.rt:10:1
+returns-2 : tie.Need-returns-2
+returns-2 c = rw (ne-eqb _ _ (c .if1 .left))
+
+pub if-none-spec : {M : Type 1} → statement M
+if-none-spec = tie.close (tie.spec returns returns-2)

@@ -1,0 +1,68 @@
+use Rattle.book.proofs.Entering.{enters, take-asks}
+use Rattle.book.specs.Pairs.{before}
+use Rattle.book.specs.Rules.{if-none}
+use Rattle.model.specs.Book.{place-units, enter}
+use Rattle.runs.proofs.Chunks.{part}
+use Rattle.runs.specs.Turns.{Reads}
+use borrow.Author.Needs.{needs}
+use lib.ListN.{take}
+use Rattle.book.proofs.enter.Statement.{statement}
+use Rattle.book.proofs.enter.Tie as tie
+use Rattle.book.proofs.enter.Reads as reads
+use Rattle.book.proofs.enter.Lts as lts
+use Rattle.book.proofs.decide.if_none.Reads as if-none-reads
+use Rattle.book.proofs.decide.place_units.Reads as place-units-reads
+use Rattle.book.proofs.enter_place.Reads as enter-place-reads
+use Rattle.book.proofs.totals.read.Reads as read-reads
+use Rattle.book.proofs.totals.take.Reads as take-reads
+use Rattle.book.proofs.totals.write.Reads as write-reads
+
+-- src/lib.rt:121:9
+place-units-requires : tie.Need-place-units-requires
+place-units-requires c κs = search needs
+
+-- src/lib.rt:122:9
+if-none-requires : tie.Need-if-none-requires
+if-none-requires c κs = search needs
+
+-- src/lib.rt:123:9
+if-none-requires-2 : tie.Need-if-none-requires-2
+if-none-requires-2 c κs = search needs
+
+-- src/lib.rt:124:9
+read-requires : tie.Need-read-requires
+read-requires c κs = search needs
+
+-- src/lib.rt:125:9
+take-requires : tie.Need-take-requires
+take-requires c κs = let s = c .before .before .before .before .before .before .args in take-asks (s .shares) (s .who) (s .part .now) (s .spot) (c .before .before .before .before .before .before .pre .found .class) _ _ _ _ (c .before .before .before .before .place-units .ensures) (c .before .before .before .if-none .ensures) (c .before .before .if-none2 .ensures) (c .read .ensures)
+
+-- src/lib.rt:126:5
+enter-place-requires : tie.Need-enter-place-requires
+enter-place-requires c κs = search needs
+
+-- src/lib.rt:127:5
+write-requires : tie.Need-write-requires
+write-requires c κs = search needs
+
+-- src/lib.rt:117:1
+same-length : tie.Need-same-length
+same-length c = search needs
+
+-- src/lib.rt:117:1
+returns : tie.Need-returns
+returns c = let s = c .before .before .before .before .before .before .before .before .before .before .before .before .before .before .before .args in rw (c .before .before .write .ensures) (enters (s .shares) (s .who) (s .part .now) (s .spot) (c .before .before .before .before .before .before .before .before .before .before .before .before .before .before .before .pre) _ _ _ _ _ _ (c .before .before .before .before .before .before .before .before .before .before .before .before .before .place-units .ensures) (c .before .before .before .before .before .before .before .before .before .before .before .before .if-none .ensures) (c .before .before .before .before .before .before .before .before .before .before .before .if-none2 .ensures) (c .before .before .before .before .before .before .before .before .before .read .ensures) (c .before .before .before .before .before .before .before .before .take .ensures) (c .before .before .before .before .before .before .enter-place .ensures))
+
+pub enter-spec : {M : Type 1} → statement M
+enter-spec =
+    tie.close
+    (tie.spec
+    place-units-requires
+    if-none-requires
+    if-none-requires-2
+    read-requires
+    take-requires
+    enter-place-requires
+    write-requires
+    same-length
+    returns)

@@ -1,0 +1,23 @@
+use Rattle.book.proofs.Judging.{shuts}
+use Rattle.runs.specs.Turns.{Reads}
+use borrow.Author.Needs.{needs}
+use borrow.Author.Needs.{needs}
+use Rattle.book.proofs.front.close.Statement.{statement}
+use Rattle.book.proofs.front.close.Tie as tie
+use Rattle.book.proofs.front.close.Reads as reads
+use Rattle.book.proofs.front.close.Lts as lts
+
+-- src/front.rt:28:5
+slice-write-front : tie.Need-slice-write-front
+slice-write-front c = search needs
+
+-- src/front.rt:24:1
+same-length : tie.Need-same-length
+same-length c = search needs
+
+-- src/front.rt:24:1
+returns : tie.Need-returns
+returns c = λ s. shuts _ s
+
+pub close-spec : {M : Type 1} → statement M
+close-spec = tie.close (tie.spec slice-write-front same-length returns)

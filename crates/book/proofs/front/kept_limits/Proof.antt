@@ -1,0 +1,43 @@
+use Rattle.book.proofs.Judging.{reads-limits}
+use Rattle.runs.specs.Turns.{Reads}
+use borrow.Author.Needs.{needs}
+use borrow.Author.Needs.{needs}
+use Rattle.book.proofs.front.kept_limits.Statement.{statement}
+use Rattle.book.proofs.front.kept_limits.Tie as tie
+use Rattle.book.proofs.front.kept_limits.Reads as reads
+use Rattle.book.proofs.front.kept_limits.Lts as lts
+
+-- src/front.rt:37:17
+shared-slice-read-t3 : tie.Need-shared-slice-read-t3
+shared-slice-read-t3 c = search needs
+
+-- src/front.rt:38:18
+shared-slice-read-t5 : tie.Need-shared-slice-read-t5
+shared-slice-read-t5 c = search needs
+
+-- src/front.rt:39:15
+shared-slice-read-t7 : tie.Need-shared-slice-read-t7
+shared-slice-read-t7 c = search needs
+
+-- src/front.rt:40:16
+shared-slice-read-t9 : tie.Need-shared-slice-read-t9
+shared-slice-read-t9 c = search needs
+
+-- src/front.rt:41:16
+shared-slice-read-t11 : tie.Need-shared-slice-read-t11
+shared-slice-read-t11 c = search needs
+
+-- src/front.rt:32:1
+returns : tie.Need-returns
+returns c = λ s. reads-limits _ s
+
+pub kept-limits-spec : {M : Type 1} → statement M
+kept-limits-spec =
+    tie.close
+    (tie.spec
+    shared-slice-read-t3
+    shared-slice-read-t5
+    shared-slice-read-t7
+    shared-slice-read-t9
+    shared-slice-read-t11
+    returns)

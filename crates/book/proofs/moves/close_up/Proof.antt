@@ -1,0 +1,64 @@
+use Rattle.book.proofs.PairWords.{close-end}
+use Rattle.book.specs.Pairs.{before}
+use Rattle.model.specs.Worked.{last}
+use Rattle.runs.specs.Turns.{Reads}
+use borrow.Author.Needs.{needs}
+use mathlib.Core.Path.{refl}
+use borrow.Author.Needs.{needs}
+use Rattle.book.proofs.moves.close_up.Statement.{statement}
+use Rattle.book.proofs.moves.close_up.Tie as tie
+use Rattle.book.proofs.moves.close_up.Reads as reads
+use Rattle.book.proofs.moves.close_up.Lts as lts
+use Rattle.book.proofs.moves.move_down.Reads as move-down-reads
+use Rattle.runs.proofs.clear_words.Reads as clear-words-reads
+
+-- src/moves.rt:26:5
+move-down-requires : tie.Need-move-down-requires
+move-down-requires c κs = search needs
+
+-- src/moves.rt:27:13
+sub-a : tie.Need-sub-a
+sub-a c = search needs
+
+-- src/moves.rt:28:23
+mul-clear-words : tie.Need-mul-clear-words
+mul-clear-words c = search needs
+
+-- src/moves.rt:28:23
+sub-clear-words : tie.Need-sub-clear-words
+sub-clear-words c = search needs
+
+-- src/moves.rt:28:23
+part-clear-words-start : tie.Need-part-clear-words-start
+part-clear-words-start c = search needs
+
+-- src/moves.rt:28:23
+part-clear-words-end : tie.Need-part-clear-words-end
+part-clear-words-end c = search needs
+
+-- src/moves.rt:28:5
+clear-words-requires : tie.Need-clear-words-requires
+clear-words-requires c κs = search needs
+
+-- src/moves.rt:22:1
+same-length : tie.Need-same-length
+same-length c = search needs
+
+-- src/moves.rt:22:1
+returns : tie.Need-returns
+returns c = let s = c .before .before .before .before .before .before .before .before .before .args in
+    close-end (s .words .now) (c .before .before .before .before .before .before .move-down .last .0) (c .before .before .clear-words .last .0) (s .d) _ (c .before .before .before .before .before .before .before .before .before .pre) (c .before .before .before .before .before .before .move-down .ensures) refl (c .before .before .clear-words .ensures)
+
+pub close-up-spec : {M : Type 1} → statement M
+close-up-spec =
+    tie.close
+    (tie.spec
+    move-down-requires
+    sub-a
+    mul-clear-words
+    sub-clear-words
+    part-clear-words-start
+    part-clear-words-end
+    clear-words-requires
+    same-length
+    returns)

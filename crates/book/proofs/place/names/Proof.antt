@@ -1,0 +1,53 @@
+use Rattle.book.specs.Pairs.{before}
+use Rattle.runs.specs.Turns.{Reads}
+use borrow.Author.Needs.{needs}
+use borrow.Author.Needs.{needs}
+use Rattle.book.proofs.place.names.Statement.{statement}
+use Rattle.book.proofs.place.names.Tie as tie
+use Rattle.book.proofs.place.names.Reads as reads
+use Rattle.book.proofs.place.names.Lts as lts
+
+-- src/place.rt:18:27
+enum-known-who : tie.Need-enum-known-who
+enum-known-who c = search needs
+
+-- src/place.rt:19:25
+enum-known-who-2 : tie.Need-enum-known-who-2
+enum-known-who-2 c = search needs
+
+-- src/place.rt:20:29
+enum-told : tie.Need-enum-told
+enum-told c = search needs
+
+-- src/place.rt:21:35
+enum-told-2 : tie.Need-enum-told-2
+enum-told-2 c = search needs
+
+-- src/place.rt:14:1
+returns : tie.Need-returns
+returns c = rw (c .before .who .given .1)
+
+-- src/place.rt:14:1
+returns-2 : tie.Need-returns-2
+returns-2 c = rw (c .before .who2 .given .1)
+
+-- src/place.rt:14:1
+returns-3 : tie.Need-returns-3
+returns-3 c = rw (c .enum-told .given .1)
+
+-- src/place.rt:14:1
+returns-4 : tie.Need-returns-4
+returns-4 c = rw (c .enum-told2 .given .1)
+
+pub names-spec : {M : Type 1} → statement M
+names-spec =
+    tie.close
+    (tie.spec
+    enum-known-who
+    enum-known-who-2
+    enum-told
+    enum-told-2
+    returns
+    returns-2
+    returns-3
+    returns-4)

@@ -1,0 +1,46 @@
+use Rattle.book.proofs.Judging.{stored-four}
+use Rattle.runs.proofs.Chunks.{part}
+use Rattle.runs.specs.Turns.{Reads}
+use borrow.Author.Needs.{needs}
+use lib.ListN.{length-set}
+use native.Mathlib.Omega.{arith}
+use borrow.Author.Needs.{needs}
+use Rattle.book.proofs.totals.write.Statement.{statement}
+use Rattle.book.proofs.totals.write.Tie as tie
+use Rattle.book.proofs.totals.write.Reads as reads
+use Rattle.book.proofs.totals.write.Lts as lts
+
+-- src/totals.rt:33:5
+slice-write-part : tie.Need-slice-write-part
+slice-write-part c = search needs
+
+-- src/totals.rt:34:5
+slice-write-part-2 : tie.Need-slice-write-part-2
+slice-write-part-2 c = simp length-set (omega arith)
+
+-- src/totals.rt:35:5
+slice-write-part-3 : tie.Need-slice-write-part-3
+slice-write-part-3 c = simp length-set (omega arith)
+
+-- src/totals.rt:36:5
+slice-write-part-4 : tie.Need-slice-write-part-4
+slice-write-part-4 c = search needs
+
+-- src/totals.rt:29:1
+same-length : tie.Need-same-length
+same-length c = search needs
+
+-- src/totals.rt:29:1
+returns : tie.Need-returns
+returns c = let s = c .args in stored-four (s .part .now) _ _ _ _ (omega arith)
+
+pub write-spec : {M : Type 1} → statement M
+write-spec =
+    tie.close
+    (tie.spec
+    slice-write-part
+    slice-write-part-2
+    slice-write-part-3
+    slice-write-part-4
+    same-length
+    returns)

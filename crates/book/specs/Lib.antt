@@ -1,0 +1,6 @@
+pub mod Pairs
+pub mod Rules
+pub mod Sums
+pub mod FrontRules
+pub mod PlaceRules
+pub mod ClassRules

@@ -1,0 +1,51 @@
+// The book's words in the front of the lent words: the five limits and the closed flag.
+ghost use mathlib.Core.Path.{_≡_};
+ghost use Prim.Native.Nat.{_≤_};
+ghost use lib.ListN.{length};
+ghost use Rattle.runs.specs.Turns.{Turns, Reads};
+ghost use Rattle.model.specs.declared.Settings.{Settings};
+ghost use Rattle.model.specs.Words.{encode-front, FrontOk};
+ghost use Rattle.book.specs.FrontRules.{limited, shut};
+use model::Limits;
+
+// Sets the five limits.
+pub fn set_limits(front: &mut [u64], limits: Limits)
+    requires { ⌜ 11 ≤ length (now front) ⌝ }
+    ensures { λ _. ⌜ ((s : Settings) → Turns (encode-front s) FrontOk (limited limits) (λ f. tt {0}) (now (front .entry)) (now (front .exit)) (tt {0})) ⌝ }
+{
+    front[5] = limits.feeder;
+    front[6] = limits.feeders;
+    front[7] = limits.peer;
+    front[8] = limits.peers;
+    front[9] = limits.relay;
+}
+
+// Closes the book: every draw from now on is refused.
+pub fn close(front: &mut [u64])
+    requires { ⌜ 11 ≤ length (now front) ⌝ }
+    ensures { λ _. ⌜ ((s : Settings) → Turns (encode-front s) FrontOk shut (λ f. tt {0}) (now (front .entry)) (now (front .exit)) (tt {0})) ⌝ }
+{
+    front[10] = 1;
+}
+
+// The limits that are kept.
+pub fn kept_limits(front: &[u64]) -> Limits
+    requires { ⌜ 11 ≤ length (now front) ⌝ }
+    ensures { λ r. ⌜ ((s : Settings) → Reads (encode-front s) FrontOk (λ f. f .limits) (now (front .entry)) r) ⌝ }
+{
+    Limits {
+        feeder: front[5],
+        feeders: front[6],
+        peer: front[7],
+        peers: front[8],
+        relay: front[9],
+    }
+}
+
+// Whether the book is closed.
+pub fn is_closed(front: &[u64]) -> bool
+    requires { ⌜ 11 ≤ length (now front) ⌝ }
+    ensures { λ r. ⌜ ((s : Settings) → Reads (encode-front s) FrontOk (λ f. f .closed) (now (front .entry)) r) ⌝ }
+{
+    front[10] == 1
+}

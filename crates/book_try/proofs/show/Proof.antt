@@ -1,0 +1,73 @@
+use Prim.Native.Nat.{_-_, _≤_}
+use Rattle.runs.specs.Turns.{Reads}
+use borrow.Author.Needs.{needs}
+use lib.ListN.{length}
+use Rattle.book_try.proofs.show.Statement.{statement}
+use Rattle.book_try.proofs.show.Tie as tie
+use Rattle.book_try.proofs.show.Reads as reads
+use Rattle.book_try.proofs.show.Lts as lts
+use Rattle.book_try.proofs.print.Reads as print-reads
+use Rattle.io.proofs.write_all.Reads as write-all-reads
+
+abbrev Inv-loop : tie.InvT-loop
+Inv-loop words i₀ i = i ≤ length words
+
+abbrev μ-loop : tie.MeasureT-loop
+μ-loop words i₀ i = length words - i
+
+-- src/main.rt:25:5
+loop-holds : tie.Need-loop-holds Inv-loop μ-loop
+loop-holds c = search needs
+
+-- src/main.rt:26:15
+mul-print : tie.Need-mul-print Inv-loop μ-loop
+mul-print c = search needs
+
+-- src/main.rt:26:15
+shared-slice-read-print : tie.Need-shared-slice-read-print Inv-loop μ-loop
+shared-slice-read-print c = search needs
+
+-- src/main.rt:26:9
+print-requires : tie.Need-print-requires Inv-loop μ-loop
+print-requires c κs = search needs
+
+-- src/main.rt:27:9
+add-i : tie.Need-add-i Inv-loop μ-loop
+add-i c = search needs
+
+-- src/main.rt:25:5
+loop-less : tie.Need-loop-less Inv-loop μ-loop
+loop-less c = search needs
+
+-- src/main.rt:25:5
+loop-again : tie.Need-loop-again Inv-loop μ-loop
+loop-again c = search needs
+
+-- src/main.rt:30:22
+slice-aggregate-write-all : tie.Need-slice-aggregate-write-all Inv-loop μ-loop
+slice-aggregate-write-all c = search needs
+
+-- src/main.rt:30:5
+write-all-requires : tie.Need-write-all-requires Inv-loop μ-loop
+write-all-requires c κs = search needs
+
+-- src/main.rt:23:1
+returns : tie.Need-returns Inv-loop μ-loop
+returns c = search needs
+
+pub show-spec : {M : Type 1} → statement M
+show-spec =
+    tie.close
+    (tie.spec
+    Inv-loop
+    μ-loop
+    loop-holds
+    mul-print
+    shared-slice-read-print
+    print-requires
+    add-i
+    loop-less
+    loop-again
+    slice-aggregate-write-all
+    write-all-requires
+    returns)

@@ -1,0 +1,36 @@
+use Rattle.book.specs.Pairs.{before}
+use Rattle.book_try.proofs.Kept.{take-asks, take-keeps}
+use Rattle.runs.specs.Turns.{Reads}
+use borrow.Author.Needs.{needs}
+use lib.ListN.{take}
+use Rattle.book_try.proofs.take.Statement.{statement}
+use Rattle.book_try.proofs.take.Tie as tie
+use Rattle.book_try.proofs.take.Reads as reads
+use Rattle.book_try.proofs.take.Lts as lts
+use Rattle.book.proofs.take.Reads as take-reads
+use Rattle.book_try.proofs.number_of.Reads as number-of-reads
+use Rattle.book_try.proofs.print.Reads as print-reads
+
+-- src/main.rt:72:9
+take-requires : tie.Need-take-requires
+take-requires c κs = let s = c .before .before .args in take-asks (s .id) (s .second) (s .words .now) (c .before .before .pre .0)
+
+-- src/main.rt:80:11
+number-of-requires : tie.Need-number-of-requires
+number-of-requires c κs = search needs
+
+-- src/main.rt:80:5
+print-requires : tie.Need-print-requires
+print-requires c κs = search needs
+
+-- src/main.rt:55:1
+same-length : tie.Need-same-length
+same-length c = search needs
+
+-- src/main.rt:55:1
+returns : tie.Need-returns
+returns c = let s = c .before .before .before .before .before .before .before .args in take-keeps (s .id) (s .second) (s .words .now) (c .before .before .before .before .before .before .before .pre .0) (c .before .before .before .before .before .before .before .pre .1) _ _ (c .before .before .before .before .take .ensures)
+
+pub take-spec : {M : Type 1} → statement M
+take-spec =
+    tie.close (tie.spec take-requires number-of-requires print-requires same-length returns)

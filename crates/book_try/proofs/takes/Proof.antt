@@ -1,0 +1,67 @@
+use Rattle.model.specs.declared.Class.the-variants.{Feeders}
+use Prim.Native.Nat.{_-_, _≤_}
+use Rattle.book.specs.ClassRules.{ClassIs}
+use Rattle.book_try.specs.Fixed.{fixed}
+use Rattle.runs.specs.Turns.{Reads}
+use borrow.Author.Needs.{needs}
+use lib.ListN.{length, take}
+use mathlib.Core.Path.{_≡_}
+use Rattle.book_try.proofs.takes.Statement.{statement}
+use Rattle.book_try.proofs.takes.Tie as tie
+use Rattle.book_try.proofs.takes.Reads as reads
+use Rattle.book_try.proofs.takes.Lts as lts
+use Rattle.book_try.proofs.show.Reads as show-reads
+use Rattle.book_try.proofs.take.Reads as take-reads
+
+abbrev Inv-loop : tie.InvT-loop
+Inv-loop words₀ id second times i₀ words i = (length words ≡ length words₀) × (i ≤ times) × ClassIs fixed Feeders words
+
+abbrev μ-loop : tie.MeasureT-loop
+μ-loop words₀ id second times i₀ words i = times - i
+
+-- src/main.rt:103:5
+loop-holds : tie.Need-loop-holds Inv-loop μ-loop
+loop-holds c = search needs
+
+-- src/main.rt:104:9
+take-requires : tie.Need-take-requires Inv-loop μ-loop
+take-requires c κs = search needs
+
+-- src/main.rt:105:9
+add-i : tie.Need-add-i Inv-loop μ-loop
+add-i c = search needs
+
+-- src/main.rt:103:5
+loop-less : tie.Need-loop-less Inv-loop μ-loop
+loop-less c = search needs
+
+-- src/main.rt:103:5
+loop-again : tie.Need-loop-again Inv-loop μ-loop
+loop-again c = search needs
+
+-- src/main.rt:107:5
+show-requires : tie.Need-show-requires Inv-loop μ-loop
+show-requires c κs = search needs
+
+-- src/main.rt:98:1
+same-length : tie.Need-same-length Inv-loop μ-loop
+same-length c = search needs
+
+-- src/main.rt:98:1
+returns : tie.Need-returns Inv-loop μ-loop
+returns c = search needs
+
+pub takes-spec : {M : Type 1} → statement M
+takes-spec =
+    tie.close
+    (tie.spec
+    Inv-loop
+    μ-loop
+    loop-holds
+    take-requires
+    add-i
+    loop-less
+    loop-again
+    show-requires
+    same-length
+    returns)

@@ -1,0 +1,99 @@
+use borrow.Author.Needs.{needs}
+use Rattle.calls_text.proofs.call.name_of_5.Statement.{statement}
+use Rattle.calls_text.proofs.call.name_of_5.Tie as tie
+use Rattle.calls_text.proofs.call.name_of_5.Reads as reads
+use Rattle.calls_text.proofs.call.name_of_5.Lts as lts
+use Rattle.check.proofs.same.Reads as same-reads
+
+slice-aggregate-same : tie.Need-slice-aggregate-same
+slice-aggregate-same c = search needs
+
+same-requires : tie.Need-same-requires
+same-requires c κs = search needs
+
+returns : tie.Need-returns
+returns c = c .before .same .ensures .0 (c .if1 .taken)
+
+slice-aggregate-same-2 : tie.Need-slice-aggregate-same-2
+slice-aggregate-same-2 c = search needs
+
+same-requires-2 : tie.Need-same-requires-2
+same-requires-2 c κs = search needs
+
+returns-2 : tie.Need-returns-2
+returns-2 c = c .before .same2 .ensures .0 (c .if2 .taken)
+
+slice-aggregate-same-3 : tie.Need-slice-aggregate-same-3
+slice-aggregate-same-3 c = search needs
+
+same-requires-3 : tie.Need-same-requires-3
+same-requires-3 c κs = search needs
+
+returns-3 : tie.Need-returns-3
+returns-3 c = c .before .same3 .ensures .0 (c .if3 .taken)
+
+slice-aggregate-same-4 : tie.Need-slice-aggregate-same-4
+slice-aggregate-same-4 c = search needs
+
+same-requires-4 : tie.Need-same-requires-4
+same-requires-4 c κs = search needs
+
+returns-4 : tie.Need-returns-4
+returns-4 c = c .before .same4 .ensures .0 (c .if4 .taken)
+
+slice-aggregate-same-5 : tie.Need-slice-aggregate-same-5
+slice-aggregate-same-5 c = search needs
+
+same-requires-5 : tie.Need-same-requires-5
+same-requires-5 c κs = search needs
+
+returns-5 : tie.Need-returns-5
+returns-5 c = c .before .same5 .ensures .0 (c .if5 .taken)
+
+slice-aggregate-same-6 : tie.Need-slice-aggregate-same-6
+slice-aggregate-same-6 c = search needs
+
+same-requires-6 : tie.Need-same-requires-6
+same-requires-6 c κs = search needs
+
+returns-6 : tie.Need-returns-6
+returns-6 c = c .before .same6 .ensures .0 (c .if6 .taken)
+
+slice-aggregate-same-7 : tie.Need-slice-aggregate-same-7
+slice-aggregate-same-7 c = search needs
+
+same-requires-7 : tie.Need-same-requires-7
+same-requires-7 c κs = search needs
+
+returns-7 : tie.Need-returns-7
+returns-7 c = c .before .same7 .ensures .0 (c .if7 .taken)
+
+returns-8 : tie.Need-returns-8
+returns-8 c = search needs
+
+pub name-of-5-spec : {M : Type 1} → statement M
+name-of-5-spec =
+    tie.close
+    (tie.spec
+    slice-aggregate-same
+    same-requires
+    returns
+    slice-aggregate-same-2
+    same-requires-2
+    returns-2
+    slice-aggregate-same-3
+    same-requires-3
+    returns-3
+    slice-aggregate-same-4
+    same-requires-4
+    returns-4
+    slice-aggregate-same-5
+    same-requires-5
+    returns-5
+    slice-aggregate-same-6
+    same-requires-6
+    returns-6
+    slice-aggregate-same-7
+    same-requires-7
+    returns-7
+    returns-8)

@@ -1,0 +1,51 @@
+use borrow.Author.Needs.{needs}
+use Rattle.calls_text.proofs.call.name_to_13.Statement.{statement}
+use Rattle.calls_text.proofs.call.name_to_13.Tie as tie
+use Rattle.calls_text.proofs.call.name_to_13.Reads as reads
+use Rattle.calls_text.proofs.call.name_to_13.Lts as lts
+use Rattle.check.proofs.same.Reads as same-reads
+
+slice-aggregate-same : tie.Need-slice-aggregate-same
+slice-aggregate-same c = search needs
+
+same-requires : tie.Need-same-requires
+same-requires c κs = search needs
+
+returns : tie.Need-returns
+returns c = c .before .same .ensures .0 (c .if1 .taken)
+
+slice-aggregate-same-2 : tie.Need-slice-aggregate-same-2
+slice-aggregate-same-2 c = search needs
+
+same-requires-2 : tie.Need-same-requires-2
+same-requires-2 c κs = search needs
+
+returns-2 : tie.Need-returns-2
+returns-2 c = c .before .same2 .ensures .0 (c .if2 .taken)
+
+slice-aggregate-same-3 : tie.Need-slice-aggregate-same-3
+slice-aggregate-same-3 c = search needs
+
+same-requires-3 : tie.Need-same-requires-3
+same-requires-3 c κs = search needs
+
+returns-3 : tie.Need-returns-3
+returns-3 c = c .before .same3 .ensures .0 (c .if3 .taken)
+
+returns-4 : tie.Need-returns-4
+returns-4 c = search needs
+
+pub name-to-13-spec : {M : Type 1} → statement M
+name-to-13-spec =
+    tie.close
+    (tie.spec
+    slice-aggregate-same
+    same-requires
+    returns
+    slice-aggregate-same-2
+    same-requires-2
+    returns-2
+    slice-aggregate-same-3
+    same-requires-3
+    returns-3
+    returns-4)

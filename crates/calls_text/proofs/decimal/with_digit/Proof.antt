@@ -1,0 +1,24 @@
+use borrow.Author.Needs.{needs}
+use Rattle.calls_text.proofs.decimal.with_digit.Statement.{statement}
+use Rattle.calls_text.proofs.decimal.with_digit.Tie as tie
+use Rattle.calls_text.proofs.decimal.with_digit.Reads as reads
+use Rattle.calls_text.proofs.decimal.with_digit.Lts as lts
+use Rattle.calls_text.proofs.decimal.joined.Reads as joined-reads
+
+enum-told : tie.Need-enum-told
+enum-told c = search needs
+
+enum-known-n : tie.Need-enum-known-n
+enum-known-n c = search needs
+
+joined-requires : tie.Need-joined-requires
+joined-requires c κs = search needs
+
+returns : tie.Need-returns
+returns c = search needs
+
+returns-2 : tie.Need-returns-2
+returns-2 c = rw (c .before .before .n .given .1) (c .joined .ensures)
+
+pub with-digit-spec : {M : Type 1} → statement M
+with-digit-spec = tie.close (tie.spec enum-told enum-known-n joined-requires returns returns-2)

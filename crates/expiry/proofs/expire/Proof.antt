@@ -1,0 +1,63 @@
+use Rattle.expiry.proofs.Ended.{noted, waits, moves-on}
+use borrow.Author.Needs.{needs}
+use Rattle.expiry.proofs.expire.Statement.{statement}
+use Rattle.expiry.proofs.expire.Tie as tie
+use Rattle.expiry.proofs.expire.Reads as reads
+use Rattle.expiry.proofs.expire.Lts as lts
+use Rattle.expiry.proofs.capped.Reads as capped-reads
+use Rattle.expiry.proofs.expire_pairs.Reads as expire-pairs-reads
+
+-- src/lib.rt:122:19
+slice-read-expired : tie.Need-slice-read-expired
+slice-read-expired c = search needs
+
+-- src/lib.rt:123:15
+add-capped : tie.Need-add-capped
+add-capped c = search needs
+
+-- src/lib.rt:123:8
+capped-requires : tie.Need-capped-requires
+capped-requires c κs = search needs
+
+-- src/lib.rt:124:9
+slice-write-part : tie.Need-slice-write-part
+slice-write-part c = search needs
+
+-- src/lib.rt:125:9
+same-length : tie.Need-same-length
+same-length c = search needs
+
+-- src/lib.rt:125:9
+returns : tie.Need-returns
+returns c = let s = c .before .before .before .before .args in noted (s .shares) (s .class) (s .t .0) (s .part .now) (c .before .before .before .before .pre .0) (rw (c .before .capped .ensures) at (c .if1 .taken))
+
+-- src/lib.rt:128:9
+returns-2 : tie.Need-returns-2
+returns-2 c = let s = c .before .before .before .before .before .args in waits (s .shares) (s .class) (s .t .0) (s .part .now) (c .before .before .before .before .before .pre .0) (rw (c .before .before .capped .ensures) at (c .before .if1 .left)) (c .if2 .taken)
+
+-- src/lib.rt:130:5
+expire-pairs-requires : tie.Need-expire-pairs-requires
+expire-pairs-requires c κs = search needs
+
+-- src/lib.rt:117:1
+same-length-2 : tie.Need-same-length-2
+same-length-2 c = search needs
+
+-- src/lib.rt:117:1
+returns-3 : tie.Need-returns-3
+returns-3 c = let s = c .before .before .before .before .before .before .before .before .before .args in moves-on (s .shares) (s .class) (s .t .0) (s .part .now) (c .before .before .before .before .before .before .before .before .before .pre .0) (rw (c .before .before .before .before .before .before .capped .ensures) at (c .before .before .before .before .before .if1 .left)) (c .before .before .before .before .if2 .left) _ (c .before .before .expire-pairs .ensures)
+
+pub expire-spec : {M : Type 1} → statement M
+expire-spec =
+    tie.close
+    (tie.spec
+    slice-read-expired
+    add-capped
+    capped-requires
+    slice-write-part
+    same-length
+    returns
+    returns-2
+    expire-pairs-requires
+    same-length-2
+    returns-3)

@@ -1,0 +1,96 @@
+use mathlib.Core.Path.{refl}
+use native.Mathlib.Omega.{arith}
+use Rattle.expiry.proofs.Ended.{cut-fits, ends}
+use borrow.Author.Needs.{needs}
+use Rattle.expiry.proofs.expire_pairs.Statement.{statement}
+use Rattle.expiry.proofs.expire_pairs.Tie as tie
+use Rattle.expiry.proofs.expire_pairs.Reads as reads
+use Rattle.expiry.proofs.expire_pairs.Lts as lts
+use Rattle.book.proofs.totals.write.Reads as write-reads
+use Rattle.expiry.proofs.expire_places.Reads as expire-places-reads
+use Rattle.runs.proofs.clear_words.Reads as clear-words-reads
+
+-- src/lib.rt:90:19
+slice-read-holders : tie.Need-slice-read-holders
+slice-read-holders c = search needs
+
+-- src/lib.rt:91:17
+mul-width : tie.Need-mul-width
+mul-width c = search needs
+
+-- src/lib.rt:91:17
+add-width : tie.Need-add-width
+add-width c = search needs
+
+-- src/lib.rt:92:9
+expire-places-requires : tie.Need-expire-places-requires
+expire-places-requires c κs = search needs
+
+-- src/lib.rt:93:17
+mul-a : tie.Need-mul-a
+mul-a c = let s = c .before .before .before .before .before .before .args in let f = cut-fits (s .shares) (s .class) (s .t) (s .part .now) (c .before .before .before .before .before .before .pre) _ _ (c .before .before .expire-places .ensures) in let u = c .before .before .before .before .before .before .pre .used in omega arith
+
+-- src/lib.rt:93:13
+add-a : tie.Need-add-a
+add-a c = let s = c .before .before .before .before .before .before .args in let f = cut-fits (s .shares) (s .class) (s .t) (s .part .now) (c .before .before .before .before .before .before .pre) _ _ (c .before .before .expire-places .ensures) in let u = c .before .before .before .before .before .before .pre .used in omega arith
+
+-- src/lib.rt:94:17
+mul-e : tie.Need-mul-e
+mul-e c = search needs
+
+-- src/lib.rt:94:13
+add-e : tie.Need-add-e
+add-e c = search needs
+
+-- src/lib.rt:95:23
+mul-clear-words : tie.Need-mul-clear-words
+mul-clear-words c = let s = c .before .before .before .before .before .before .args in let f = cut-fits (s .shares) (s .class) (s .t) (s .part .now) (c .before .before .before .before .before .before .pre) _ _ (c .before .before .expire-places .ensures) in let u = c .before .before .before .before .before .before .pre .used in omega arith
+
+-- src/lib.rt:95:23
+sub-clear-words : tie.Need-sub-clear-words
+sub-clear-words c = let s = c .before .before .before .before .before .before .args in let f = cut-fits (s .shares) (s .class) (s .t) (s .part .now) (c .before .before .before .before .before .before .pre) _ _ (c .before .before .expire-places .ensures) in let u = c .before .before .before .before .before .before .pre .used in omega arith
+
+-- src/lib.rt:95:23
+part-clear-words-start : tie.Need-part-clear-words-start
+part-clear-words-start c = let s = c .before .before .before .before .before .before .args in let f = cut-fits (s .shares) (s .class) (s .t) (s .part .now) (c .before .before .before .before .before .before .pre) _ _ (c .before .before .expire-places .ensures) in let u = c .before .before .before .before .before .before .pre .used in omega arith
+
+-- src/lib.rt:95:23
+part-clear-words-end : tie.Need-part-clear-words-end
+part-clear-words-end c = search needs
+
+-- src/lib.rt:95:5
+clear-words-requires : tie.Need-clear-words-requires
+clear-words-requires c κs = search needs
+
+-- src/lib.rt:102:5
+write-requires : tie.Need-write-requires
+write-requires c κs = search needs
+
+-- src/lib.rt:86:1
+same-length : tie.Need-same-length
+same-length c = search needs
+
+-- src/lib.rt:86:1
+returns : tie.Need-returns
+returns c = let s = c .before .before .before .before .before .before .before .before .before .before .before .before .before .before .args in rw (c .before .before .write .ensures) (ends (s .shares) (s .class) (s .t) (s .part .now) (c .before .before .before .before .before .before .before .before .before .before .before .before .before .before .pre) _ _ (c .before .before .before .before .before .before .before .before .before .before .expire-places .ensures) _ _ refl refl _ (c .before .before .before .before .before .before .clear-words .ensures))
+
+pub expire-pairs-spec : {M : Type 1} → statement M
+expire-pairs-spec =
+    tie.close
+    (tie.spec
+    slice-read-holders
+    mul-width
+    add-width
+    expire-places-requires
+    mul-a
+    add-a
+    mul-e
+    add-e
+    mul-clear-words
+    sub-clear-words
+    part-clear-words-start
+    part-clear-words-end
+    clear-words-requires
+    write-requires
+    same-length
+    returns)

@@ -1,0 +1,150 @@
+use mathlib.Core.Path.{refl}
+use Rattle.expiry.proofs.Walked.{asks-expire, asks-with, place-goes, place-stays}
+use borrow.Author.Needs.{needs}
+use Rattle.expiry.proofs.expire_place.Statement.{statement}
+use Rattle.expiry.proofs.expire_place.Tie as tie
+use Rattle.expiry.proofs.expire_place.Reads as reads
+use Rattle.expiry.proofs.expire_place.Lts as lts
+use Rattle.book.proofs.moves.move_down.Reads as move-down-reads
+use Rattle.book.proofs.place.expire.Reads as expire-reads
+use Rattle.expiry.proofs.with_place.Reads as with-place-reads
+
+-- src/lib.rt:53:17
+mul-width : tie.Need-mul-width
+mul-width c = search needs
+
+-- src/lib.rt:53:17
+add-width : tie.Need-add-width
+add-width c = search needs
+
+-- src/lib.rt:54:17
+mul-a : tie.Need-mul-a
+mul-a c = search needs
+
+-- src/lib.rt:54:13
+add-a : tie.Need-add-a
+add-a c = search needs
+
+-- src/lib.rt:55:13
+add-e : tie.Need-add-e
+add-e c = search needs
+
+-- src/lib.rt:56:30
+mul-expire : tie.Need-mul-expire
+mul-expire c = search needs
+
+-- src/lib.rt:56:30
+sub-expire : tie.Need-sub-expire
+sub-expire c = search needs
+
+-- src/lib.rt:56:30
+part-expire-start : tie.Need-part-expire-start
+part-expire-start c = search needs
+
+-- src/lib.rt:56:30
+part-expire-end : tie.Need-part-expire-end
+part-expire-end c = search needs
+
+-- src/lib.rt:56:9
+expire-requires : tie.Need-expire-requires
+expire-requires c κs = let s = c .before .before .args in let g = c .before .before .pre in asks-expire (s .shares) (s .class) (s .t) (s .i) (s .kept) (s .part .now) _ _ refl refl g
+
+-- src/lib.rt:58:9
+same-length : tie.Need-same-length
+same-length c = search needs
+
+-- src/lib.rt:58:9
+returns : tie.Need-returns
+returns c = let s = c .before .before .before .before .before .before .before .args in let g = c .before .before .before .before .before .before .before .pre in place-goes (s .shares) (s .class) (s .t) (s .i) (s .kept) (s .part .now) _ _ refl refl _ _ (c .before .before .before .before .expire .ensures) (c .if1 .taken)
+
+-- src/lib.rt:60:27
+mul-with-place : tie.Need-mul-with-place
+mul-with-place c = search needs
+
+-- src/lib.rt:60:27
+sub-with-place : tie.Need-sub-with-place
+sub-with-place c = search needs
+
+-- src/lib.rt:60:27
+part-with-place-start : tie.Need-part-with-place-start
+part-with-place-start c = search needs
+
+-- src/lib.rt:60:27
+part-with-place-end : tie.Need-part-with-place-end
+part-with-place-end c = search needs
+
+-- src/lib.rt:60:9
+with-place-requires : tie.Need-with-place-requires
+with-place-requires c κs = let s = c .before .before .before .before .before .before .before .before .before .args in let g = c .before .before .before .before .before .before .before .before .before .pre in let x = asks-with (s .shares) (s .class) (s .t) (s .i) (s .kept) (s .part .now) _ _ refl refl _ _ (c .before .before .before .before .before .before .expire .ensures) g in (x .0, x .1, g .feeder, g .peer, g .places, g .entries, g .units)
+
+-- src/lib.rt:61:17
+mul-j : tie.Need-mul-j
+mul-j c = search needs
+
+-- src/lib.rt:61:13
+add-j : tie.Need-add-j
+add-j c = search needs
+
+-- src/lib.rt:62:22
+mul-move-down : tie.Need-mul-move-down
+mul-move-down c = search needs
+
+-- src/lib.rt:62:22
+sub-move-down : tie.Need-sub-move-down
+sub-move-down c = search needs
+
+-- src/lib.rt:62:22
+part-move-down-start : tie.Need-part-move-down-start
+part-move-down-start c = search needs
+
+-- src/lib.rt:62:22
+part-move-down-end : tie.Need-part-move-down-end
+part-move-down-end c = search needs
+
+-- src/lib.rt:62:39
+sub-move-down-2 : tie.Need-sub-move-down-2
+sub-move-down-2 c = search needs
+
+-- src/lib.rt:62:5
+move-down-requires : tie.Need-move-down-requires
+move-down-requires c κs = search needs
+
+-- src/lib.rt:42:1
+same-length-2 : tie.Need-same-length-2
+same-length-2 c = search needs
+
+-- src/lib.rt:42:1
+returns-2 : tie.Need-returns-2
+returns-2 c = let s = c .before .before .before .before .before .before .before .before .before .before .before .before .before .before .before .args in let g = c .before .before .before .before .before .before .before .before .before .before .before .before .before .before .before .pre in place-stays (s .shares) (s .class) (s .t) (s .i) (s .kept) (s .part .now) _ _ refl refl _ _ (c .before .before .before .before .before .before .before .before .before .before .before .before .expire .ensures) (c .before .before .before .before .before .before .before .before .if1 .left) _ refl _ (c .before .before .move-down .ensures) _ (c .before .before .before .before .before .with-place .ensures)
+
+pub expire-place-spec : {M : Type 1} → statement M
+expire-place-spec =
+    tie.close
+    (tie.spec
+    mul-width
+    add-width
+    mul-a
+    add-a
+    add-e
+    mul-expire
+    sub-expire
+    part-expire-start
+    part-expire-end
+    expire-requires
+    same-length
+    returns
+    mul-with-place
+    sub-with-place
+    part-with-place-start
+    part-with-place-end
+    with-place-requires
+    mul-j
+    add-j
+    mul-move-down
+    sub-move-down
+    part-move-down-start
+    part-move-down-end
+    sub-move-down-2
+    move-down-requires
+    same-length-2
+    returns-2)

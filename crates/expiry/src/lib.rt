@@ -1,0 +1,132 @@
+// The expiry of one class of the share book, in the class's own part of the lent words: pairs with seconds before a given one
+// go, a place that has none left goes too, and later places close up behind those kept.
+ghost use Prim.Native.Nat.{_+_, _*_, _≤_};
+ghost use mathlib.Core.Path.{_≡_};
+ghost use lib.ListN.{length, getD};
+ghost use Rattle.model.specs.Numbers.{cap32, top32};
+ghost use Rattle.model.specs.Book.{expire-class};
+ghost use Rattle.model.specs.BookWords.{most-entries};
+ghost use Rattle.book.specs.ClassRules.{ClassIs, ClassTurns};
+ghost use Rattle.expiry.specs.Walks.{with-words, Standing, Steps, Walking, freed-to};
+use book::decide;
+use book::moves;
+use book::place;
+use book::totals;
+use model::Class;
+use model::Second;
+use model::Shares;
+
+// The places kept so far, with their entries and units. Totals are summed up again from what is kept, so that nothing is
+// subtracted from them.
+struct Kept {
+    places: usize,
+    entries: u64,
+    units: u64,
+}
+
+// The kept places with one more.
+fn with_place(place: &[u64], shares: Shares, class: Class, kept: Kept) -> Kept
+    requires { ⌜ (4 ≤ length (now place)) × (getD (now place) 2 0 ≤ most-entries) × (shares .feeder ≤ 4_096) × (shares .peer ≤ 4_096) × (kept .places ≤ 64) × (kept .entries ≤ most-entries) × (kept .units ≤ 2_262_144) ⌝ }
+    ensures { λ r. ⌜ r ≡ with-words shares class (now (place .entry)) kept ⌝ }
+{
+    let entries = place[2];
+    let units = decide::units_of(shares, class, place[0]);
+    Kept {
+        places: kept.places + 1,
+        entries: kept.entries + entries,
+        units: kept.units + entries + units,
+    }
+}
+
+// Drops the pairs before t from place i, and moves the place down behind those kept, if it still has pairs.
+fn expire_place(
+    part: &mut [u64],
+    shares: Shares,
+    class: Class,
+    t: u64,
+    i: usize,
+    kept: Kept,
+) -> Kept
+    requires { ⌜ Standing shares class t i kept (now part) ⌝ }
+    ensures { λ r. ⌜ Steps shares class t i kept (now (part .entry)) (now (part .exit)) r ⌝ }
+{
+    let width = 2 * (shares.pairs as usize) + 4;
+    let a = 4 + i * width;
+    let e = a + width;
+    let left = place::expire(&mut part[a..e], t);
+    if left.pairs == 0 {
+        return kept;
+    }
+    let more = with_place(&part[a..e], shares, class, kept);
+    let j = 4 + kept.places * width;
+    moves::move_down(&mut part[j..e], a - j);
+    more
+}
+
+// Walks over the places in use, each once.
+fn expire_places(part: &mut [u64], shares: Shares, class: Class, t: u64) -> Kept
+    requires { ⌜ ClassIs shares class (now part) ⌝ }
+    ensures { λ r. ⌜ Walking shares class t (now (part .entry)) (getD (now (part .entry)) 1 0) r (now (part .exit)) ⌝ }
+{
+    let holders = part[1] as usize;
+    let mut kept = Kept {
+        places: 0,
+        entries: 0,
+        units: 0,
+    };
+    let mut i = 0;
+    while i < holders {
+        kept = expire_place(part, shares, class, t, i, kept);
+        i += 1;
+    }
+    kept
+}
+
+// All places: what lies between those kept and the end of those in use is cleared, and the totals are those of the places kept.
+fn expire_pairs(part: &mut [u64], shares: Shares, class: Class, t: u64)
+    requires { ⌜ ClassIs shares class (now part) ⌝ }
+    ensures { λ _. ⌜ ClassTurns shares class (freed-to t) (λ h. tt {0}) (now (part .entry)) (now (part .exit)) (tt {0}) ⌝ }
+{
+    let holders = part[1] as usize;
+    let width = 2 * (shares.pairs as usize) + 4;
+    let kept = expire_places(part, shares, class, t);
+    let places = kept.places;
+    let a = 4 + places * width;
+    let e = 4 + holders * width;
+    runs::clear_words(&mut part[a..e]);
+    let sums = totals::Totals {
+        entries: kept.entries,
+        holders: places as u64,
+        units: kept.units,
+        expired: t,
+    };
+    totals::write(part, sums);
+}
+
+// The largest number of 32 bits in place of one that is larger.
+fn capped(n: u64) -> u64
+    ensures { λ r. ⌜ r ≡ cap32 n ⌝ }
+{
+    if n <= 4294967295 {
+        return n;
+    }
+    4294967295
+}
+
+// Expires a class up to a second. Where the clock stepped back by more than two seconds the class only takes note of it, and
+// nothing is freed; where it has not moved on nothing happens; else the pairs before the second go.
+pub fn expire(part: &mut [u64], shares: Shares, class: Class, t: Second)
+    requires { ⌜ ClassIs shares class (now part) × (t .0 ≤ top32) ⌝ }
+    ensures { λ _. ⌜ ClassTurns shares class (expire-class (t .0)) (λ h. tt {0}) (now (part .entry)) (now (part .exit)) (tt {0}) ⌝ }
+{
+    let through = t.0;
+    let expired = part[3];
+    if capped(through + 2) < expired {
+        part[3] = through;
+        return;
+    }
+    if through <= expired {
+        return;
+    }
+    expire_pairs(part, shares, class, through);
+}

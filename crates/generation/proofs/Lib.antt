@@ -1,0 +1,8 @@
+pub mod Leading
+pub mod Doubling
+pub mod Putting
+pub mod Reaching
+pub mod Looking
+pub mod Dropping
+pub mod Inserting
+pub mod Testing

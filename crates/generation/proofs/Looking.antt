@@ -1,0 +1,98 @@
+-- What is seen of a generation in its words: its slots, whether it holds a fingerprint, and the room that it has.
+use Prim.Native.Nat.{ℕ, _+_, _-_, _<_, _≤_}
+use native.Mathlib.Omega.{arith}
+use mathlib.Core.Path.{_≡_, refl, sym, _∙_, ap}
+use mathlib.Core.Bool.{Bool, true, false, not, _&&_}
+use mathlib.Core.List.{List}
+use lib.ListN.{length, getD}
+use lib.Dec.{eqb, leb}
+use borrow.Author.Tests.{le-leb, lt-leb, leb-true}
+use borrow.Rule.Slice.PartMut.{midOf}
+use Rattle.runs.proofs.Cases.{by-test, no}
+use Rattle.runs.proofs.Words.{length-pad}
+use Rattle.model.specs.declared.Probe.{Probe}
+use Rattle.model.specs.declared.Room.{Room}
+use Rattle.model.specs.declared.Room.the-variants.{At, Collides, Full}
+use Rattle.model.specs.Generation.{Generation, count, among, probe, slots-for}
+use Rattle.model.specs.Judge.{collides}
+use Rattle.model.specs.GenerationWords.{encode-generation, read-generation, generation-sound, GenerationOk}
+use Rattle.model.proofs.Probing.{found, probe-finds, count≤}
+use Rattle.model.proofs.Growth.{ok-found}
+use Rattle.model.proofs.GenerationWords.{generation-wide, live-pad, generation-exact}
+use Rattle.generation.specs.Slots.{slots-after}
+use Rattle.generation.specs.Rules.{holds-in, room-in}
+use Rattle.generation.specs.Words.{Bounded, Roomy, GenerationReads}
+use Rattle.generation.proofs.Doubling.{slots-are}
+
+-- the plain bounds of any well-formed generation's words
+pub bounded : (S n i : ℕ) (g : Generation) → GenerationOk S n i g → S ≤ 1_024 → (ws : List ℕ) → ws ≡ encode-generation S g → Bounded ws
+bounded S n i g ok small ws is =
+    let fits = ok .fits in
+    rw is (record { live = rw length-pad (omega arith); held = count≤ (g .slots); small = rw length-pad (omega arith) })
+
+-- the live slots, as they are lent: `&part[4..e]`, with e 4 past their number
+pub slots-part : (S : ℕ) (g : Generation) → length (g .slots) ≤ S → (ws : List ℕ) → ws ≡ encode-generation S g
+    → (n : ℕ) → n ≡ getD ws 0 0 → midOf 4 (n + 4 - 4) ws ≡ g .slots
+slots-part S g fits ws is n e =
+    let k : n + 4 - 4 ≡ length (g .slots) = let l = ap (λ (l : List ℕ). getD l 0 0) is in omega arith in
+    rw (k, is) (live-pad S g fits)
+
+module _ (ws : List ℕ) where
+  pub contains-reads : (fp : ℕ) (p : Probe) → p ≡ probe (midOf 4 (getD ws 0 0 + 4 - 4) ws) fp → 0 < fp → (r : Bool) → r ≡ found p
+      → GenerationReads (λ S g. among fp (g .slots)) ws r
+  contains-reads fp p e pos r says S n i = record {
+    says = λ g ok is.
+        says ∙ ap found e ∙ rw (slots-part S g (ok .fits) ws is (getD ws 0 0) refl) (probe-finds (g .slots) fp (ok-found S n i g ok) pos);
+  }
+
+  pub holds-reads : (b fp : ℕ) (r : Bool) → GenerationReads (λ S g. among fp (g .slots)) ws r
+      → GenerationReads (λ S. holds-in b fp) ws (eqb (getD ws 3 0) b && r)
+  holds-reads b fp r t S n i = record { says = λ g ok is. rw (t S n i .says g ok is, is) }
+
+  module _ (known : Bool) (b at : ℕ) where
+    pub room-collides : (not (eqb (getD ws 3 0) b) && not (eqb (getD ws 1 0) 0)) ≡ true → GenerationReads (room-in known b at) ws Collides
+    unfolding collides
+    room-collides t S n i = record { says = λ g ok is. let e = rw is at t in rw e }
+
+    module _ (t : (not (eqb (getD ws 3 0) b) && not (eqb (getD ws 1 0) 0)) ≡ false) (wanted : ℕ)
+        (w : wanted ≡ slots-after known (getD ws 0 0) (getD ws 1 0)) where
+      pub room-at : wanted ≤ length ws - 4 → GenerationReads (room-in known b at) ws (At at)
+      unfolding collides
+      room-at h S n i = record {
+        says = λ g ok is.
+            let e = rw is at t in
+            let m : length ws - 4 ≡ S = rw (is, generation-wide S g) (omega arith) in
+            let v : slots-after known (length (g .slots)) (count (g .slots)) ≡ wanted = sym (rw is at w) in
+            rw (e, slots-are known (g .slots), v, le-leb wanted S (omega arith));
+      }
+
+      pub room-full : length ws - 4 < wanted → GenerationReads (room-in known b at) ws Full
+      unfolding collides
+      room-full h S n i = record {
+        says = λ g ok is.
+            let e = rw is at t in
+            let m : length ws - 4 ≡ S = rw (is, generation-wide S g) (omega arith) in
+            let v : slots-after known (length (g .slots)) (count (g .slots)) ≡ wanted = sym (rw is at w) in
+            rw (e, slots-are known (g .slots), v, lt-leb wanted S (omega arith));
+      }
+
+-- ---- what a function may ask of words, for a caller
+pub roomy : (S : ℕ) (g : Generation) (known : Bool) → slots-for known (g .slots) ≤ S → (ws : List ℕ) → ws ≡ encode-generation S g → Roomy known ws
+roomy S g known h ws is =
+    let s = slots-are known (g .slots) in
+    rw is (record { room = rw (generation-wide S g) (omega arith) })
+
+-- of sound words, and where room was found
+module _ (S n i : ℕ) (small : S ≤ 1_024) (ws : List ℕ) (long : length ws ≡ S + 4) (sound : generation-sound n i ws ≡ true) where
+  pub sound-bounded : Bounded ws
+  sound-bounded = let b = generation-exact S n i .back ws long sound in bounded S n i (read-generation ws) (b .0) small ws (b .1)
+
+  pub found-roomy : (known : Bool) (b at : ℕ) (r : Room) {j : ℕ} → r ≡ At j → GenerationReads (room-in known b at) ws r → Roomy known ws
+  found-roomy known b at r told t =
+      let v = generation-exact S n i .back ws long sound in
+      let g = read-generation ws in
+      let q = sym told ∙ t S n i .says g (v .0) (v .1) in
+      by-test (collides b g) (λ e. no (let z = rw e at q in cc))
+      (λ e. by-test (leb (slots-for known (g .slots)) S)
+      (λ d. roomy S g known (leb-true (slots-for known (g .slots)) S d) ws (v .1))
+      (λ d. no (let z = rw (e, d) at q in cc)))

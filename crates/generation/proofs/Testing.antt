@@ -1,0 +1,46 @@
+-- The soundness test of a generation's words, in the order in which the code makes it: each `return` is the test's value.
+use Prim.Native.Nat.{ℕ, _+_, _-_, _<_, _≤_}
+use native.Mathlib.Omega.{arith}
+use mathlib.Core.Path.{_≡_}
+use mathlib.Core.Bool.{true, false}
+use mathlib.Core.List.{List}
+use lib.ListN.{length, getD, take, drop, length-drop}
+use lib.Seq.{take-all}
+use borrow.Author.Tests.{eq-eqb, ne-eqb, le-leb, lt-leb}
+use Rattle.runs.specs.Words.{zeros}
+use Rattle.model.specs.GenerationWords.{slots-sound, filled-sound, empty-sound, generation-sound}
+
+module _ (n i : ℕ) (ws : List ℕ) where
+  -- more slots than the run has
+  pub sound-long : length ws - 4 < getD ws 0 0 → false ≡ generation-sound n i ws
+  unfolding generation-sound
+  sound-long h = rw (lt-leb _ _ h)
+
+  module _ (fits : getD ws 0 0 ≤ length ws - 4) where
+    rest : take (length ws - (getD ws 0 0 + 4)) (drop (getD ws 0 0 + 4) ws) ≡ drop (getD ws 0 0 + 4) ws
+    rest = take-all (length ws - (getD ws 0 0 + 4)) (drop (getD ws 0 0 + 4) ws) (rw length-drop (omega arith))
+
+    -- slots past their number that are not 0
+    pub sound-rest : false ≡ zeros (take (length ws - (getD ws 0 0 + 4)) (drop (getD ws 0 0 + 4) ws)) → false ≡ generation-sound n i ws
+    unfolding generation-sound
+    sound-rest z = let e = rw rest at z in rw (le-leb _ _ fits, ← e)
+
+    module _ (z : true ≡ zeros (take (length ws - (getD ws 0 0 + 4)) (drop (getD ws 0 0 + 4) ws))) where
+      -- no slots
+      pub sound-empty : getD ws 0 0 ≡ 0 → empty-sound (getD ws 1 0) (getD ws 2 0) ≡ generation-sound n i ws
+      unfolding generation-sound
+      sound-empty h = let e = rw rest at z in rw (le-leb _ _ fits, ← e, eq-eqb _ _ h)
+
+      -- slots, whose numbers break a rule or keep all
+      module _ (h : getD ws 0 0 ≡ 0 → ⊥) where
+        pub sound-not : false ≡ filled-sound n i (getD ws 0 0) (getD ws 1 0) (getD ws 3 0) → false ≡ generation-sound n i ws
+        unfolding generation-sound
+        sound-not f = let e = rw rest at z in rw (le-leb _ _ fits, ← e, ne-eqb _ _ h, ← f)
+
+        pub sound-filled : true ≡ filled-sound n i (getD ws 0 0) (getD ws 1 0) (getD ws 3 0)
+            → slots-sound (take (getD ws 0 0 + 4 - 4) (drop 4 ws)) (getD ws 1 0) ≡ generation-sound n i ws
+        unfolding generation-sound
+        sound-filled f =
+            let e = rw rest at z in
+            let m : getD ws 0 0 + 4 - 4 ≡ getD ws 0 0 = omega arith in
+            rw (le-leb _ _ fits, ← e, ne-eqb _ _ h, ← f, m)

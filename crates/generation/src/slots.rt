@@ -1,0 +1,164 @@
+// The slots of a generation by themselves: each is a fingerprint, or 0 where it is empty.
+use crate::Generation;
+use model::Probe;
+ghost use mathlib.Core.Path.{_≡_};
+ghost use mathlib.Core.List.{_++_};
+ghost use Prim.Native.Nat.{_+_, _-_, _*_, _%_, _≤_, _<_, max};
+ghost use lib.ListN.{length, take, drop, replicate};
+ghost use Rattle.model.specs.Generation.{next, probe, refill, grown};
+ghost use Rattle.generation.specs.Slots.{slots-after, put-again, Puts};
+
+// The slot that probing starts at. Slots are a power of two, for which the remainder is a mask and no division.
+fn first_slot(fp: u64, n: usize) -> usize
+    requires { ⌜ 0 < n ⌝ }
+    ensures { λ r. ⌜ r ≡ fp % n ⌝ }
+{
+    match n {
+        2 => (fp % 2) as usize,
+        4 => (fp % 4) as usize,
+        8 => (fp % 8) as usize,
+        16 => (fp % 16) as usize,
+        32 => (fp % 32) as usize,
+        64 => (fp % 64) as usize,
+        128 => (fp % 128) as usize,
+        256 => (fp % 256) as usize,
+        512 => (fp % 512) as usize,
+        1024 => (fp % 1024) as usize,
+        _ => (fp % (n as u64)) as usize,
+    }
+}
+
+// The slot after i, round the end.
+fn next_slot(i: usize, n: usize) -> usize
+    requires { ⌜ i < n ⌝ }
+    ensures { λ r. ⌜ r ≡ next n i ⌝ }
+{
+    let j = i + 1;
+    if j == n {
+        return 0;
+    }
+    j
+}
+
+// Where probing for a fingerprint ends.
+pub fn find(slots: &[u64], fp: u64) -> Probe
+    ensures { λ r. ⌜ r ≡ probe (now (slots .entry)) fp ⌝ }
+{
+    let n = slots.len();
+    if n == 0 {
+        return Probe::Nowhere;
+    }
+    let mut i = first_slot(fp, n);
+    let mut left = n;
+    while 0 < left {
+        let word = slots[i];
+        if word == fp {
+            return Probe::Held(i);
+        }
+        if word == 0 {
+            return Probe::Free(i);
+        }
+        i = next_slot(i, n);
+        left -= 1;
+    }
+    Probe::Nowhere
+}
+
+// Puts a fingerprint where probing for it ends at an empty slot. Answers how many that adds to those held.
+pub fn put(slots: &mut [u64], fp: u64) -> u64
+    requires { ⌜ 0 < fp ⌝ }
+    ensures { λ r. ⌜ Puts fp (now (slots .entry)) (now (slots .exit)) r ⌝ }
+{
+    let p = find(slots, fp);
+    match p {
+        Probe::Held(_) => 0,
+        Probe::Nowhere => 0,
+        Probe::Free(i) => {
+            slots[i] = fp;
+            1
+        }
+    }
+}
+
+// Puts an old slot's word into new slots, unless it is empty.
+fn put_again(slots: &mut [u64], word: u64)
+    ensures { λ _. ⌜ now (slots .exit) ≡ put-again (now (slots .entry)) word ⌝ }
+{
+    if word == 0 {
+        return;
+    }
+    put(slots, word);
+}
+
+// Puts what old slots hold into new ones, in the old order.
+fn refill_from(slots: &mut [u64], old: &[u64])
+    ensures { λ _. ⌜ now (slots .exit) ≡ refill (now (old .entry)) (now (slots .entry)) ⌝ }
+{
+    let mut i = 0;
+    while i < old.len() {
+        let word = old[i];
+        put_again(slots, word);
+        i += 1;
+    }
+}
+
+// The same, into slots that are emptied first.
+fn rebuild(slots: &mut [u64], old: &[u64])
+    ensures { λ _. ⌜ now (slots .exit) ≡ refill (now (old .entry)) (replicate (length (now (slots .entry))) 0) ⌝ }
+{
+    runs::clear_words(slots);
+    refill_from(slots, old);
+}
+
+// The first n slots become `wanted`, and hold what they held. `old` keeps them meanwhile.
+fn rebuild_through(slots: &mut [u64], old: &mut [u64], n: usize, wanted: usize)
+    requires { ⌜ ((n ≤ wanted) × (wanted ≤ length (now slots))) × (n ≤ length (now old)) ⌝ }
+    ensures { λ _. ⌜ now (slots .exit) ≡ refill (take n (now (slots .entry))) (replicate wanted 0) ++ drop wanted (now (slots .entry)) ⌝ }
+    ensures { λ _. ⌜ now (old .exit) ≡ take n (now (slots .entry)) ++ drop n (now (old .entry)) ⌝ }
+{
+    runs::copy_words(&mut old[0..n], &slots[0..n]);
+    rebuild(&mut slots[0..wanted], &old[0..n]);
+}
+
+// Room for the most slots that a generation can have.
+fn scratch() -> [u64; 1024]
+    ensures { λ r. ⌜ 1024 ≡ length r ⌝ }
+{
+    [0u64; 1024]
+}
+
+// The first n slots become `wanted`, unless they are as many already.
+pub fn regrow(slots: &mut [u64], n: usize, wanted: usize)
+    requires { ⌜ ((n ≤ wanted) × (wanted ≤ length (now slots))) × (wanted ≤ 1024) ⌝ }
+    ensures { λ _. ⌜ now (slots .exit) ≡ grown wanted (take n (now (slots .entry))) ++ drop wanted (now (slots .entry)) ⌝ }
+{
+    if wanted == n {
+        return;
+    }
+    let mut old = scratch();
+    rebuild_through(slots, &mut old, n, wanted);
+}
+
+// The slots that there are once a fingerprint is inserted: doubled from the present number until those held and it are at most
+// three quarters. `known`: it is held already, which changes nothing today.
+pub fn slots_for(known: bool, slots: u64, held: u64) -> u64
+    requires { ⌜ (slots ≤ 1024) × (held ≤ 1024) ⌝ }
+    ensures { λ r. ⌜ r ≡ slots-after known slots held ⌝ }
+{
+    let most = 4 * (held + 1);
+    let mut n = larger(slots, Generation::LEAST);
+    while 3 * n < most {
+        n = 2 * n;
+    }
+    n
+}
+
+// The larger of two numbers.
+pub fn larger(a: u64, b: u64) -> u64
+    ensures { λ r. ⌜ r ≡ max a b ⌝ }
+{
+    if a < b {
+        return b;
+    }
+    a
+}

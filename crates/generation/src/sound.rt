@@ -1,0 +1,99 @@
+// The soundness test of one generation's words, whatever they are.
+use crate::Generation;
+use crate::slots::find;
+use model::Probe;
+ghost use mathlib.Core.Path.{_≡_};
+ghost use mathlib.Core.Bool.{cond};
+ghost use Prim.Native.Nat.{_≤_, _<_};
+ghost use lib.Dec.{eqb};
+ghost use lib.ListN.{length};
+ghost use Rattle.model.specs.Settings.{power-of-two};
+ghost use Rattle.model.specs.GenerationWords.{reached, slots-sound, filled-sound, generation-sound};
+
+// A power of two from 2 to 1,024.
+pub fn is_power(n: u64) -> bool
+    ensures { λ r. ⌜ r ≡ power-of-two n ⌝ }
+{
+    (n == 2)
+        | ((n == 4)
+            | ((n == 8)
+                | ((n == 16)
+                    | ((n == 32)
+                        | ((n == 64) | ((n == 128) | ((n == 256) | ((n == 512) | (n == 1024)))))))))
+}
+
+// 1 for a slot that is held, and 0 for an empty one.
+fn one_if_held(word: u64) -> u64
+    ensures { λ r. ⌜ r ≡ cond (eqb word 0) 0 1 ⌝ }
+{
+    if word == 0 {
+        return 0;
+    }
+    1
+}
+
+// Slot i, whose word this is, is empty, or probing for its fingerprint ends there.
+fn is_reached(slots: &[u64], i: usize, word: u64) -> bool
+    ensures { λ r. ⌜ r ≡ reached (now (slots .entry)) i word ⌝ }
+{
+    if word == 0 {
+        return true;
+    }
+    let p = find(slots, word);
+    match p {
+        Probe::Held(j) => j == i,
+        Probe::Free(_) => false,
+        Probe::Nowhere => false,
+    }
+}
+
+// Every slot is reached, and as many are held as the generation says.
+fn slots_sound(slots: &[u64], held: u64) -> bool
+    ensures { λ r. ⌜ r ≡ slots-sound (now (slots .entry)) held ⌝ }
+{
+    let mut n = 0u64;
+    let mut i = 0;
+    while i < slots.len() {
+        let word = slots[i];
+        if !is_reached(slots, i, word) {
+            return false;
+        }
+        let one = one_if_held(word);
+        n += one;
+        i += 1;
+    }
+    n == held
+}
+
+// The numbers that lead a generation with slots, at position `at` of a ring.
+fn filled_sound(ring: u64, at: u64, slots: u64, held: u64, bucket: u64) -> bool
+    requires { ⌜ (0 < ring) × (slots ≤ 1024) ⌝ }
+    ensures { λ r. ⌜ r ≡ filled-sound ring at slots held bucket ⌝ }
+{
+    let power = is_power(slots);
+    power & ((1 <= held) & ((held <= 3 * slots / 4) & (bucket % ring == at)))
+}
+
+// The words of a generation at position `at` of a ring are sound.
+pub fn is_sound(part: &[u64], ring: u64, at: u64) -> bool
+    requires { ⌜ (0 < ring) × ((4 ≤ length (now part)) × (length (now part) ≤ 1028)) ⌝ }
+    ensures { λ r. ⌜ r ≡ generation-sound ring at (now (part .entry)) ⌝ }
+{
+    let n = part[0];
+    let most = (part.len() - Generation::HEAD) as u64;
+    if most < n {
+        return false;
+    }
+    let e = (n as usize) + Generation::HEAD;
+    if !runs::zeros_only(&part[e..]) {
+        return false;
+    }
+    let held = part[1];
+    if n == 0 {
+        return (held == 0) & (part[2] == 0);
+    }
+    if !filled_sound(ring, at, n, held, part[3]) {
+        return false;
+    }
+    slots_sound(&part[Generation::HEAD..e], held)
+}

@@ -1,0 +1,91 @@
+// A generation of at most 8 slots at position 0 of a ring of 24: fingerprints are inserted, words printed after each, one is
+// dropped, and damaged words are refused. What is printed is the worked case of holding 1, 2, 3, 4, 6 and a seventh, with
+// fingerprints that start at the same slot.
+use generation::Dropped;
+use model::Bucket;
+use model::Room;
+ghost use Prim.Native.Nat.{_<_};
+
+fn print(n: u64, end: u8) {
+    io::print_decimal(1, n);
+    let line = [end];
+    io::write_all(1, &line);
+}
+
+// The answer's code, then the words.
+fn show(says: u64, part: &[u64]) {
+    print(says, b':');
+    let mut i = 0;
+    while i < part.len() {
+        print(part[i], b' ');
+        i += 1;
+    }
+    let line = [b'\n'];
+    io::write_all(1, &line);
+}
+
+// Inserts a fingerprint: 1 where it did, 2 where another bucket is held, 3 where there is no room, and 0 for unsound words.
+fn strike(part: &mut [u64], bucket: Bucket, fp: u64, stamp: u64) -> u64
+    requires { ⌜ 0 < fp ⌝ }
+{
+    if part.len() != 12 {
+        return 0;
+    }
+    if !generation::is_sound(part, 24, 0) {
+        return 0;
+    }
+    let known = generation::contains(part, fp);
+    let room = generation::room(part, 0, bucket, known);
+    match room {
+        Room::Collides => 2,
+        Room::Full => 3,
+        Room::At(_) => {
+            generation::insert(part, known, bucket, fp, stamp);
+            1
+        }
+    }
+}
+
+// Drops the generation if a sweep passes it: 0 where it did not, else one more than the newest that went.
+fn sweep(part: &mut [u64], through: Bucket) -> u64 {
+    if part.len() != 12 {
+        return 0;
+    }
+    if !generation::is_sound(part, 24, 0) {
+        return 0;
+    }
+    let went = generation::sweep_one(part, through);
+    match went {
+        Dropped::Nothing => 0,
+        Dropped::Newest(stamp) => stamp,
+    }
+}
+
+fn main() {
+    let mut part = [0u64; 12];
+    let mut says = strike(&mut part, Bucket(120), 8, 100);
+    show(says, &part);
+    says = strike(&mut part, Bucket(120), 16, 90);
+    show(says, &part);
+    says = strike(&mut part, Bucket(120), 15, 110);
+    show(says, &part);
+    says = strike(&mut part, Bucket(120), 15, 120);
+    show(says, &part);
+    says = strike(&mut part, Bucket(120), 7, 105);
+    show(says, &part);
+    says = strike(&mut part, Bucket(96), 7, 105);
+    show(says, &part);
+    says = strike(&mut part, Bucket(120), 23, 105);
+    show(says, &part);
+    says = strike(&mut part, Bucket(120), 31, 105);
+    show(says, &part);
+    says = strike(&mut part, Bucket(120), 1, 105);
+    show(says, &part);
+    says = sweep(&mut part, Bucket(120));
+    show(says, &part);
+    says = sweep(&mut part, Bucket(121));
+    show(says, &part);
+    part[9] = 5;
+    says = strike(&mut part, Bucket(120), 5, 1);
+    show(says, &part);
+}

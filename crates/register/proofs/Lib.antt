@@ -1,0 +1,4 @@
+pub mod HeadWords
+pub mod InRings
+pub mod Sweeps
+pub mod Verdicts

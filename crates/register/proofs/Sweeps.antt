@@ -1,0 +1,187 @@
+-- A sweep, ring by ring: what goes does not depend on the floor, and the floor is raised by the newest that went. Assumes nothing.
+use Prim.Native.Nat.{ℕ, zero, suc, _-_, _≤_, _<_, max}
+use native.Mathlib.Omega.{arith}
+use mathlib.Core.Path.{_≡_, refl, sym, ap, _∙_}
+use mathlib.Core.Bool.{Bool, true, false, not}
+use mathlib.Core.Option.{Option, none, some}
+use mathlib.Core.List.{List}
+use lib.Dec.{leb}
+use lib.ListN.{getD}
+use borrow.Author.Tests.{le-leb, lt-leb}
+use Rattle.runs.proofs.Cases.{by-test}
+use Rattle.runs.proofs.Turns.{then-with}
+use Rattle.model.specs.declared.Class.{Class}
+use Rattle.model.specs.declared.Class.the-variants.{Feeders, Peers, Own}
+use Rattle.model.specs.declared.Usable.{Usable}
+use Rattle.model.specs.Numbers.{raise}
+use Rattle.model.specs.Settings.{ring-of}
+use Rattle.model.specs.Class.{pick}
+use Rattle.model.specs.Generation.{dropped}
+use Rattle.model.specs.Register.{Ring, Register, generation-at, with-generation, passed, Swept, visit, visits, sweep-ring, sweep-rings, swept-to, through-of, sweep}
+use Rattle.model.specs.RegisterWords.{register-form}
+use Rattle.model.proofs.Choice.{swap-cases}
+use Rattle.model.proofs.Growth.{dropped-ok}
+use Rattle.model.proofs.RingsKept.{RingOk, from-form, to-form, with-ok, sweep-ok}
+use Rattle.generation.specs.declared.Dropped.{Dropped}
+use Rattle.generation.specs.Rules.{went}
+use Rattle.ring.specs.Sweep.{swept-ring, swept-says, raised-by}
+use Rattle.register.specs.Rules.{silent, raised-with, in-ring, swept-class}
+use Rattle.register.specs.Words.{RegisterWords, RegisterReads, RegisterTurns}
+use Rattle.register.proofs.InRings.{still-words}
+
+-- ---- the floor apart from the ring
+raised-twice : (f : Option ℕ) (k : ℕ) (x : Option ℕ) → raised-by (went x) (raise f k) ≡ raised-by (went (raised-by (went x) (some k))) f
+unfolding raise
+raised-twice f k none = refl
+raised-twice none k (some m) = refl
+raised-twice (some n) k (some m) = let e : max (max n k) m ≡ max n (max k m) = omega arith in ap some e
+
+-- from any floor: the same ring, and the floor raised by what an absent one would become
+pub record Apart (f : Option ℕ) (one bare : Swept) : Type 0 where
+  pub floor : one .floor ≡ raised-by (went (bare .floor)) f
+  pub ring : one .ring ≡ bare .ring
+
+abbrev from : Option ℕ → Ring → Swept
+from f ring = record { floor = f; ring = ring }
+
+visits-apart : (n through b : ℕ) (f : Option ℕ) (ring : Ring) → Apart f (visits n through b (from f ring)) (visits n through b (from none ring))
+unfolding visits visit raise
+visits-apart zero through b f ring = record { floor = refl; ring = refl }
+visits-apart (suc n) through b f ring =
+    let g = generation-at ring b in
+    by-test (passed through g)
+    (λ e.
+    let next = with-generation ring b (dropped g) in
+    let one = visits-apart n through (suc b) (raise f (g .newest)) next in
+    let bare = visits-apart n through (suc b) (some (g .newest)) next in
+    rw e (record {
+      floor = one .floor ∙ raised-twice f (g .newest) (visits n through (suc b) (from none next) .floor)
+          ∙ ap (λ (x : Option ℕ). raised-by (went x) f) (sym (bare .floor));
+      ring = one .ring ∙ sym (bare .ring);
+    }))
+    (λ e. rw e (visits-apart n through (suc b) f ring))
+
+pub sweep-apart : (a through : ℕ) (f : Option ℕ) (ring : Ring) → Apart f (sweep-ring a through f ring) (sweep-ring a through none ring)
+unfolding sweep-ring
+sweep-apart a through f ring = visits-apart (through - a) through a f ring
+
+-- ---- a swept ring is well formed
+module _ (u : Usable) where
+  visit-ok : (through b : ℕ) (w : Swept) → RingOk u (w .ring) → RingOk u (visit through b w .ring)
+  unfolding visit
+  visit-ok through b w ok =
+      by-test (passed through (generation-at (w .ring) b))
+      (λ e. rw e (with-ok u (w .ring) b (dropped (generation-at (w .ring) b)) ok (dropped-ok (u .slots) (ring-of u) _ (generation-at (w .ring) b))))
+      (λ e. rw e ok)
+
+  visits-ok : (n through b : ℕ) (w : Swept) → RingOk u (w .ring) → RingOk u (visits n through b w .ring)
+  unfolding visits
+  visits-ok zero through b w ok = ok
+  visits-ok (suc n) through b w ok = visits-ok n through (suc b) (visit through b w) (visit-ok through b w ok)
+
+  ring-ok : (a through : ℕ) (ring : Ring) → RingOk u ring → RingOk u (swept-ring a through ring)
+  unfolding sweep-ring
+  ring-ok a through ring ok = visits-ok (through - a) through a (from none ring) ok
+
+  in-ring-ok : (c : Class) (a through : ℕ) (reg : Register) → register-form u .Ok reg → register-form u .Ok (in-ring c (swept-ring a through) reg)
+  in-ring-ok c a through reg ok =
+      let r = from-form u reg ok in
+      to-form u (in-ring c (swept-ring a through) reg) (record {
+        spare = r .spare;
+        rings = λ d. swap-cases (λ (x : Ring). RingOk u x) c d (swept-ring a through (pick c (reg .rings))) (reg .rings)
+            (λ e. ring-ok a through (pick c (reg .rings)) (r .rings c)) (r .rings d);
+      })
+
+  class-ok : (c : Class) (a through : ℕ) (reg : Register) → register-form u .Ok reg → register-form u .Ok (swept-class c a through reg)
+  class-ok c a through reg ok = in-ring-ok c a through reg ok
+
+  -- ---- one class
+  pub class-turns : (c : Class) (a through : ℕ) (ws mid last : List ℕ) (d : Dropped)
+      → RegisterTurns u (in-ring c (swept-ring a through)) (λ reg. swept-says a through (pick c (reg .rings))) ws mid d
+      → RegisterTurns u (raised-with d) silent mid last (tt {0})
+      → RegisterTurns u (swept-class c a through) silent ws last (tt {0})
+  class-turns c a through ws mid last d one two = then-with (in-ring-ok c a through) one raised-with (λ d. silent) two
+
+  pub class-words : (c : Class) (a through : ℕ) (ws last : List ℕ) → RegisterTurns u (swept-class c a through) silent ws last (tt {0})
+      → RegisterWords u ws → RegisterWords u last
+  class-words c a through ws last t w = still-words u ws last (class-ok c a through) t w
+
+  -- ---- all three
+  all-three : (a through : ℕ) (reg : Register)
+      → swept-to through (swept-class Own a through (swept-class Peers a through (swept-class Feeders a through reg))) ≡ sweep-rings a through reg
+  unfolding sweep-rings
+  all-three a through reg =
+      let one = sweep-ring a through (reg .floor) (reg .rings .of-feeders) in
+      let two = sweep-ring a through (one .floor) (reg .rings .of-peers) in
+      let x = sweep-apart a through (reg .floor) (reg .rings .of-feeders) in
+      let y = sweep-apart a through (one .floor) (reg .rings .of-peers) in
+      let z = sweep-apart a through (two .floor) (reg .rings .of-own) in
+      let high = ap (raised-by (swept-says a through (reg .rings .of-own)))
+      (ap (raised-by (swept-says a through (reg .rings .of-peers))) (sym (x .floor)) ∙ sym (y .floor)) ∙ sym (z .floor) in
+      λ i. record {
+        swept = through;
+        floor = high i;
+        pending = reg .pending;
+        spare = reg .spare;
+        rings = record { of-feeders = sym (x .ring) i; of-peers = sym (y .ring) i; of-own = sym (z .ring) i };
+      }
+
+  pub rings-turns : (a through : ℕ) (ws one two three last : List ℕ)
+      → RegisterTurns u (swept-class Feeders a through) silent ws one (tt {0})
+      → RegisterTurns u (swept-class Peers a through) silent one two (tt {0})
+      → RegisterTurns u (swept-class Own a through) silent two three (tt {0})
+      → RegisterTurns u (swept-to through) silent three last (tt {0})
+      → RegisterTurns u (sweep-rings a through) silent ws last (tt {0})
+  rings-turns a through ws one two three last f p o s = record {
+    does = λ reg ok is.
+        let x = f .does reg ok is .0 in
+        let ok1 = class-ok Feeders a through reg ok in
+        let y = p .does (swept-class Feeders a through reg) ok1 x .0 in
+        let ok2 = class-ok Peers a through (swept-class Feeders a through reg) ok1 in
+        let z = o .does (swept-class Peers a through (swept-class Feeders a through reg)) ok2 y .0 in
+        let ok3 = class-ok Own a through (swept-class Peers a through (swept-class Feeders a through reg)) ok2 in
+        (s .does (swept-class Own a through (swept-class Peers a through (swept-class Feeders a through reg))) ok3 z .0 ∙ ap (register-form u .enc) (all-three a through reg), refl);
+  }
+
+  -- ---- sweep: the three ways
+  module _ (ms : ℕ) where
+    idle : (reg : Register) → reg .pending ≡ true → reg ≡ sweep u ms reg
+    unfolding sweep
+    idle reg e = rw e
+
+    back : (reg : Register) → reg .pending ≡ false → leb (through-of u ms) (reg .swept) ≡ true → swept-to (through-of u ms) reg ≡ sweep u ms reg
+    unfolding sweep
+    back reg e t = rw (e, t)
+
+    on : (reg : Register) → reg .pending ≡ false → leb (through-of u ms) (reg .swept) ≡ false
+        → sweep-rings (max (reg .swept) (through-of u ms - ring-of u)) (through-of u ms) reg ≡ sweep u ms reg
+    unfolding sweep
+    on reg e t = rw (e, t)
+
+    pub sweep-idle : (ws : List ℕ) (pending : Bool) → RegisterReads u (λ reg. reg .pending) ws pending → pending ≡ true → RegisterTurns u (sweep u ms) silent ws ws (tt {0})
+    sweep-idle ws pending p t = record { does = λ reg ok is. (is ∙ ap (register-form u .enc) (idle reg (sym (p .says reg ok is) ∙ t)), refl) }
+
+    pub sweep-back : (ws last : List ℕ) (through : ℕ) (pending : Bool) → RegisterReads u (λ reg. reg .pending) ws pending → pending ≡ false → through ≡ through-of u ms
+        → through ≤ getD ws 6 0 → RegisterTurns u (swept-to through) silent ws last (tt {0}) → RegisterTurns u (sweep u ms) silent ws last (tt {0})
+    sweep-back ws last through pending p n e h t = record {
+      does = λ reg ok is.
+          let s : getD ws 6 0 ≡ reg .swept = ap (λ (l : List ℕ). getD l 6 0) is in
+          let k : leb (through-of u ms) (reg .swept) ≡ true = le-leb (through-of u ms) (reg .swept) (omega arith) in
+          let z = rw e at (t .does reg ok is .0) in
+          (z ∙ ap (register-form u .enc) (back reg (sym (p .says reg ok is) ∙ n) k), refl);
+    }
+
+    pub sweep-on : (ws last : List ℕ) (a through : ℕ) (pending : Bool) → RegisterReads u (λ reg. reg .pending) ws pending → pending ≡ false → through ≡ through-of u ms
+        → getD ws 6 0 < through → a ≡ max (getD ws 6 0) (through - ring-of u)
+        → RegisterTurns u (sweep-rings a through) silent ws last (tt {0}) → RegisterTurns u (sweep u ms) silent ws last (tt {0})
+    sweep-on ws last a through pending p n e h k t = record {
+      does = λ reg ok is.
+          let s : getD ws 6 0 ≡ reg .swept = ap (λ (l : List ℕ). getD l 6 0) is in
+          let b : leb (through-of u ms) (reg .swept) ≡ false = lt-leb (through-of u ms) (reg .swept) (omega arith) in
+          let z = rw (k, s, e) at (t .does reg ok is .0) in
+          (z ∙ ap (register-form u .enc) (on reg (sym (p .says reg ok is) ∙ n) b), refl);
+    }
+
+    pub swept-words : (ws last : List ℕ) → RegisterTurns u (sweep u ms) silent ws last (tt {0}) → RegisterWords u ws → RegisterWords u last
+    swept-words ws last t w =
+        still-words u ws last (λ reg ok. to-form u (sweep u ms reg) (sweep-ok u ms reg (from-form u reg ok))) t w

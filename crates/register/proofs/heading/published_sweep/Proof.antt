@@ -1,0 +1,17 @@
+use Rattle.register.proofs.HeadWords.{published-reads}
+use borrow.Author.Needs.{needs}
+use Rattle.register.proofs.heading.published_sweep.Statement.{statement}
+use Rattle.register.proofs.heading.published_sweep.Tie as tie
+use Rattle.register.proofs.heading.published_sweep.Reads as reads
+use Rattle.register.proofs.heading.published_sweep.Lts as lts
+
+-- src/heading.rt:48:12
+shared-slice-read-t3 : tie.Need-shared-slice-read-t3
+shared-slice-read-t3 c = search needs
+
+-- src/heading.rt:44:1
+returns : tie.Need-returns
+returns c = λ u. published-reads u _
+
+pub published-sweep-spec : {M : Type 1} → statement M
+published-sweep-spec = tie.close (tie.spec shared-slice-read-t3 returns)

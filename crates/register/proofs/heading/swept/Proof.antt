@@ -1,0 +1,21 @@
+use Rattle.register.proofs.HeadWords.{swept-reads}
+use borrow.Author.Needs.{needs}
+use Rattle.register.proofs.heading.swept.Statement.{statement}
+use Rattle.register.proofs.heading.swept.Tie as tie
+use Rattle.register.proofs.heading.swept.Reads as reads
+use Rattle.register.proofs.heading.swept.Lts as lts
+
+-- src/heading.rt:39:21
+shared-slice-read-t3 : tie.Need-shared-slice-read-t3
+shared-slice-read-t3 c = search needs
+
+-- src/heading.rt:39:30
+shared-slice-read-t5 : tie.Need-shared-slice-read-t5
+shared-slice-read-t5 c = search needs
+
+-- src/heading.rt:35:1
+returns : tie.Need-returns
+returns c = λ u. swept-reads u _
+
+pub swept-spec : {M : Type 1} → statement M
+swept-spec = tie.close (tie.spec shared-slice-read-t3 shared-slice-read-t5 returns)

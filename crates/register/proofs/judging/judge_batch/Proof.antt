@@ -1,0 +1,46 @@
+use Rattle.register.specs.Rules.{asked-by}
+use Rattle.register.proofs.Verdicts.{batch-turns}
+use borrow.Author.Needs.{needs}
+use Rattle.register.proofs.judging.judge_batch.Statement.{statement}
+use Rattle.register.proofs.judging.judge_batch.Tie as tie
+use Rattle.register.proofs.judging.judge_batch.Reads as reads
+use Rattle.register.proofs.judging.judge_batch.Lts as lts
+use Rattle.numbers.proofs.spans.front_past.Reads as front-past-reads
+use Rattle.numbers.proofs.spans.window_for.Reads as window-for-reads
+use Rattle.register.proofs.judging.ahead_for.Reads as ahead-for-reads
+use Rattle.register.proofs.judging.judge.Reads as judge-reads
+
+-- src/judging.rt:98:9
+judge-requires : tie.Need-judge-requires
+judge-requires c κs = search needs
+
+-- src/judging.rt:100:34
+window-for-requires : tie.Need-window-for-requires
+window-for-requires c κs = search needs
+
+-- src/judging.rt:100:9
+front-past-requires : tie.Need-front-past-requires
+front-past-requires c κs = search needs
+
+-- src/judging.rt:101:5
+ahead-for-requires : tie.Need-ahead-for-requires
+ahead-for-requires c κs = search needs
+
+-- src/judging.rt:94:1
+same-length : tie.Need-same-length
+same-length c = search needs
+
+-- src/judging.rt:94:1
+returns : tie.Need-returns
+returns c = let j = c .before .before .before .before .before in let s = j .before .before .before in (j .judge .ensures .0, batch-turns (s .args .u) (asked-by (s .args .ask)) _ _ _ _ _ _ (j .judge .ensures .1) (c .before .before .window-for .ensures) (c .before .front-past .ensures) (c .ahead-for .ensures))
+
+pub judge-batch-spec : {M : Type 1} → statement M
+judge-batch-spec =
+    tie.close
+    (tie.spec
+    judge-requires
+    window-for-requires
+    front-past-requires
+    ahead-for-requires
+    same-length
+    returns)

@@ -1,0 +1,48 @@
+use Rattle.register.proofs.InRings.{ring-asks, ring-reads}
+use borrow.Author.Needs.{needs}
+use Rattle.register.proofs.rings.holds_hash.Statement.{statement}
+use Rattle.register.proofs.rings.holds_hash.Tie as tie
+use Rattle.register.proofs.rings.holds_hash.Reads as reads
+use Rattle.register.proofs.rings.holds_hash.Lts as lts
+use Rattle.register.proofs.places.ring_at.Reads as ring-at-reads
+use Rattle.ring.proofs.contains_any.Reads as contains-any-reads
+
+-- src/rings.rt:46:9
+ring-at-requires : tie.Need-ring-at-requires
+ring-at-requires c κs = search needs
+
+-- src/rings.rt:49:24
+mul-contains-any : tie.Need-mul-contains-any
+mul-contains-any c = search needs
+
+-- src/rings.rt:49:24
+sub-contains-any : tie.Need-sub-contains-any
+sub-contains-any c = search needs
+
+-- src/rings.rt:49:24
+part-contains-any-start : tie.Need-part-contains-any-start
+part-contains-any-start c = search needs
+
+-- src/rings.rt:49:24
+part-contains-any-end : tie.Need-part-contains-any-end
+part-contains-any-end c = search needs
+
+-- src/rings.rt:49:5
+contains-any-requires : tie.Need-contains-any-requires
+contains-any-requires c κs = let s = c .before .before .before in (s .pre .0, ring-asks _ _ _ (c .before .ring-at .ensures) (s .args .part .now) (s .pre .1))
+
+-- src/rings.rt:42:1
+returns : tie.Need-returns
+returns c = ring-reads _ _ _ (c .before .before .ring-at .ensures) (c .contains-any .ensures)
+
+pub holds-hash-spec : {M : Type 1} → statement M
+holds-hash-spec =
+    tie.close
+    (tie.spec
+    ring-at-requires
+    mul-contains-any
+    sub-contains-any
+    part-contains-any-start
+    part-contains-any-end
+    contains-any-requires
+    returns)

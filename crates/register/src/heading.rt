@@ -1,0 +1,95 @@
+// A register's own words: the sweep, the floor and whether it is pending.
+use generation::Dropped;
+use model::Answer;
+use model::Bucket;
+use model::Judged;
+use model::Usable;
+use numbers::spans;
+ghost use Prim.Native.Nat.{_≤_};
+ghost use lib.ListN.{length};
+ghost use Rattle.model.specs.declared.Usable.{Usable as Settings};
+ghost use Rattle.model.specs.Register.{swept-to, published, begin as begun};
+ghost use Rattle.model.specs.Calls.{floor-answer};
+ghost use Rattle.register.specs.Rules.{raised, raised-with, begin-says, swept-answer, silent};
+ghost use Rattle.register.specs.Words.{RegisterReads, RegisterTurns};
+
+// Whether the register waits for the host's number.
+pub fn is_pending(part: &[u64]) -> bool
+    requires { ⌜ 24 ≤ length (now part) ⌝ }
+    ensures { λ r. ⌜ ((u : Settings) → RegisterReads u (λ reg. reg .pending) (now (part .entry)) r) ⌝ }
+{
+    part[10] == 1
+}
+
+// The newest stamp that it may have forgotten, if any.
+pub fn floor(part: &[u64]) -> Answer
+    requires { ⌜ 24 ≤ length (now part) ⌝ }
+    ensures { λ r. ⌜ ((u : Settings) → RegisterReads u (λ reg. floor-answer (reg .floor)) (now (part .entry)) r) ⌝ }
+{
+    if part[8] == 1 {
+        return Answer::FloorAt(part[9]);
+    }
+    Answer::NoFloor
+}
+
+// The bucket up to which it is swept, and that in milliseconds.
+pub fn swept(part: &[u64]) -> Answer
+    requires { ⌜ 24 ≤ length (now part) ⌝ }
+    ensures { λ r. ⌜ ((u : Settings) → RegisterReads u (swept-answer u) (now (part .entry)) r) ⌝ }
+{
+    Answer::SweptTo(part[6], part[7])
+}
+
+// The sweep that it publishes to the share book, in milliseconds.
+pub fn published_sweep(part: &[u64]) -> Judged
+    requires { ⌜ 24 ≤ length (now part) ⌝ }
+    ensures { λ r. ⌜ ((u : Settings) → RegisterReads u (λ reg. published u (reg .swept)) (now (part .entry)) (r .0)) ⌝ }
+{
+    Judged(part[7])
+}
+
+// Raises the floor: it never falls, and one that is absent becomes the stamp.
+pub fn raise_floor(part: &mut [u64], stamp: u64)
+    requires { ⌜ 24 ≤ length (now part) ⌝ }
+    ensures { λ r. ⌜ ((u : Settings) → RegisterTurns u (raised stamp) silent (now (part .entry)) (now (part .exit)) (tt {0})) ⌝ }
+{
+    if (part[8] == 1) & (stamp <= part[9]) {
+        return;
+    }
+    part[8] = 1;
+    part[9] = stamp;
+}
+
+// The same by what a drop forgot.
+pub fn raise_by(part: &mut [u64], went: Dropped)
+    requires { ⌜ 24 ≤ length (now part) ⌝ }
+    ensures { λ r. ⌜ ((u : Settings) → RegisterTurns u (raised-with went) silent (now (part .entry)) (now (part .exit)) (tt {0})) ⌝ }
+{
+    match went {
+        Dropped::Nothing => {}
+        Dropped::Newest(stamp) => raise_floor(part, stamp),
+    }
+}
+
+// Sets the bucket up to which it is swept, with what that publishes.
+pub fn set_swept(part: &mut [u64], u: Usable, swept: Bucket)
+    requires { ⌜ 24 ≤ length (now part) ⌝ }
+    ensures { λ r. ⌜ RegisterTurns u (swept-to (swept .0)) silent (now (part .entry)) (now (part .exit)) (tt {0}) ⌝ }
+{
+    let published = spans::published(u, swept);
+    part[6] = swept.0;
+    part[7] = published.0;
+}
+
+// Begins: a pending register's floor is raised to the host's number, and it is pending no longer.
+pub fn begin(part: &mut [u64], number: u64) -> Answer
+    requires { ⌜ 24 ≤ length (now part) ⌝ }
+    ensures { λ r. ⌜ ((u : Settings) → RegisterTurns u (begun number) begin-says (now (part .entry)) (now (part .exit)) r) ⌝ }
+{
+    if part[10] != 1 {
+        return Answer::Already;
+    }
+    raise_floor(part, number);
+    part[10] = 0;
+    Answer::Begun
+}

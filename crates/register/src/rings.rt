@@ -1,0 +1,112 @@
+// A register's three rings, each in its place.
+use crate::heading;
+use crate::places;
+use model::Bucket;
+use model::Class;
+use model::Room;
+use model::Usable;
+use numbers::spans;
+ghost use mathlib.Core.Path.{_≡_};
+ghost use Prim.Native.Nat.{_<_};
+ghost use Rattle.model.specs.Class.{pick};
+ghost use Rattle.model.specs.Generation.{as-read as read-as};
+ghost use Rattle.model.specs.Register.{holds, holds-any, any-class, strike as struck};
+ghost use Rattle.model.specs.Judge.{make-room};
+ghost use Rattle.ring.specs.Ring.{found-at};
+ghost use Rattle.register.specs.Rules.{swept-class, silent};
+ghost use Rattle.register.specs.Words.{RegisterWords, RegisterReads, RegisterTurns};
+
+// Whether a class's ring holds a fingerprint in a bucket.
+fn holds_in(part: &[u64], u: Usable, class: Class, bucket: Bucket, fp: u64) -> bool
+    requires { ⌜ (0 < fp) × RegisterWords u (now part) ⌝ }
+    ensures { λ r. ⌜ RegisterReads u (λ reg. holds (bucket .0) fp (pick class (reg .rings))) (now (part .entry)) r ⌝ }
+{
+    let at = places::ring_at(u, class);
+    let a = at.start;
+    let e = at.end;
+    ring::contains(&part[a..e], at.slots, at.ring, bucket, fp)
+}
+
+// Whether any class's ring does.
+pub fn holds_any_class(part: &[u64], u: Usable, bucket: Bucket, fp: u64) -> bool
+    requires { ⌜ (0 < fp) × RegisterWords u (now part) ⌝ }
+    ensures { λ r. ⌜ RegisterReads u (λ reg. any-class (holds (bucket .0) fp) (reg .rings)) (now (part .entry)) r ⌝ }
+{
+    let feeders = holds_in(part, u, Class::Feeders, bucket, fp);
+    let peers = holds_in(part, u, Class::Peers, bucket, fp);
+    let own = holds_in(part, u, Class::Own, bucket, fp);
+    feeders | (peers | own)
+}
+
+// Whether a class's ring holds a fingerprint in any bucket.
+fn holds_hash(part: &[u64], u: Usable, class: Class, fp: u64) -> bool
+    requires { ⌜ (0 < fp) × RegisterWords u (now part) ⌝ }
+    ensures { λ r. ⌜ RegisterReads u (λ reg. holds-any fp (pick class (reg .rings))) (now (part .entry)) r ⌝ }
+{
+    let at = places::ring_at(u, class);
+    let a = at.start;
+    let e = at.end;
+    ring::contains_any(&part[a..e], at.slots, at.ring, fp)
+}
+
+// Whether the register holds a fingerprint in any bucket of any class.
+pub fn contains_hash(part: &[u64], u: Usable, fp: u64) -> bool
+    requires { ⌜ RegisterWords u (now part) ⌝ }
+    ensures { λ r. ⌜ RegisterReads u (λ reg. any-class (holds-any (read-as fp)) (reg .rings)) (now (part .entry)) r ⌝ }
+{
+    let print = spans::as_read(fp);
+    let feeders = holds_hash(part, u, Class::Feeders, print);
+    let peers = holds_hash(part, u, Class::Peers, print);
+    let own = holds_hash(part, u, Class::Own, print);
+    feeders | (peers | own)
+}
+
+// The room for a fingerprint of a bucket in a class's ring.
+pub fn room(part: &[u64], u: Usable, class: Class, bucket: Bucket, fp: u64) -> Room
+    requires { ⌜ (0 < fp) × RegisterWords u (now part) ⌝ }
+    ensures { λ r. ⌜ RegisterReads u (λ reg. make-room (u .slots) (bucket .0) fp (pick class (reg .rings))) (now (part .entry)) r ⌝ }
+{
+    let at = places::ring_at(u, class);
+    let a = at.start;
+    let e = at.end;
+    ring::room(&part[a..e], at.slots, at.ring, bucket, fp)
+}
+
+// A fingerprint is inserted into a class's ring, at the position where room was found for it.
+pub fn strike(
+    part: &mut [u64],
+    u: Usable,
+    class: Class,
+    position: usize,
+    bucket: Bucket,
+    fp: u64,
+    stamp: u64,
+)
+    requires { ⌜ ((0 < fp) × RegisterWords u (now part)) × RegisterReads u (λ reg. make-room (u .slots) (bucket .0) fp (pick class (reg .rings))) (now part) (found-at position) ⌝ }
+    ensures { λ _. ⌜ RegisterTurns u (struck class (bucket .0) fp stamp) silent (now (part .entry)) (now (part .exit)) (tt {0}) ⌝ }
+{
+    let at = places::ring_at(u, class);
+    let a = at.start;
+    let e = at.end;
+    ring::insert(
+        &mut part[a..e],
+        at.slots,
+        at.ring,
+        position,
+        bucket,
+        fp,
+        stamp,
+    );
+}
+
+// A class's ring is swept, and the newest that went raises the floor.
+pub fn sweep_class(part: &mut [u64], u: Usable, class: Class, from: Bucket, through: Bucket)
+    requires { ⌜ RegisterWords u (now part) ⌝ }
+    ensures { λ _. ⌜ RegisterWords u (now (part .exit)) × RegisterTurns u (swept-class class (from .0) (through .0)) silent (now (part .entry)) (now (part .exit)) (tt {0}) ⌝ }
+{
+    let at = places::ring_at(u, class);
+    let a = at.start;
+    let e = at.end;
+    let went = ring::sweep(&mut part[a..e], at.slots, at.ring, from, through);
+    heading::raise_by(part, went);
+}

@@ -1,0 +1,65 @@
+-- Fingerprints looked for in a ring, and the room that it has for one.
+use Prim.Native.Nat.{ℕ, _+_, _-_, _%_, _<_, _≤_}
+use native.Mathlib.Omega.{arith}
+use native.Mathlib.Numerals.{add-one}
+use mathlib.Core.Path.{_≡_, refl, sym, _∙_}
+use mathlib.Core.Bool.{Bool, true, false, _||_}
+use mathlib.Core.List.{List}
+use lib.ListN.{getD, drop, drop-of-length-le}
+use lib.Seq.{drop-cons}
+use Rattle.runs.proofs.Turns.{reads-as}
+use Rattle.model.specs.declared.Room.{Room}
+use Rattle.model.specs.Generation.{empty, among}
+use Rattle.model.specs.Register.{Ring, generation-at, holds, holds-any}
+use Rattle.model.specs.Judge.{make-room}
+use Rattle.generation.specs.Rules.{holds-in, room-in}
+use Rattle.ring.specs.Ring.{places, RingReads}
+
+-- ---- in a bucket
+pub holds-reads : (S n b fp : ℕ) {ws : List ℕ} {r : Bool} → RingReads S n (λ ring. holds-in b fp (generation-at ring b)) ws r
+    → RingReads S n (holds b fp) ws r
+unfolding holds
+holds-reads S n b fp t = t
+
+-- ---- in any: the loop is at position i, and `any` is the answer for those before it
+or-assoc : (a b c : Bool) → (a || b || c) ≡ (a || (b || c))
+or-assoc true b c = refl
+or-assoc false b c = refl
+
+or-false : (a : Bool) → (a || false) ≡ a
+or-false true = refl
+or-false false = refl
+
+pub record Looked (S n fp : ℕ) (ws : List ℕ) (i : ℕ) (any : Bool) : Type 0 where
+  pub within : i ≤ n
+  pub left : (ring : Ring) → places S n .Ok ring → ws ≡ places S n .enc ring → (any || holds-any fp (drop i ring)) ≡ holds-any fp ring
+
+module _ (S n fp : ℕ) (ws : List ℕ) where
+  pub look-start : Looked S n fp ws 0 false
+  look-start = record { within = omega arith; left = λ ring ok is. refl }
+
+  module _ (i : ℕ) (any : Bool) (l : Looked S n fp ws i any) where
+    pub look-on : i < n → (held : Bool) → RingReads S n (λ ring. among fp (getD ring i empty .slots)) ws held → Looked S n fp ws (i + 1) (any || held)
+    unfolding holds-any
+    look-on h held t = record {
+      within = omega arith;
+      left = λ ring ok is.
+          let e = ok .0 in
+          let q = rw (drop-cons ring i empty (omega arith), ← t .says ring ok is) at (l .left ring ok is) in
+          rw (add-one, or-assoc) q;
+    }
+
+    pub look-end : n ≤ i → RingReads S n (holds-any fp) ws any
+    unfolding holds-any
+    look-end h = record {
+      says = λ ring ok is.
+          let e = ok .0 in
+          sym (or-false any) ∙ (rw (drop-of-length-le ring {i = i} (omega arith)) at (l .left ring ok is));
+    }
+
+-- ---- room, where `known` says whether the fingerprint is held
+pub room-reads : (S n b fp at : ℕ) → at ≡ b % n → {ws : List ℕ} {known : Bool} {r : Room}
+    → RingReads S n (λ ring. among fp (generation-at ring b .slots)) ws known
+    → RingReads S n (λ ring. room-in known b at S (generation-at ring b)) ws r → RingReads S n (make-room S b fp) ws r
+unfolding make-room
+room-reads S n b fp at p k t = reads-as t (λ ring ok is q. q ∙ rw (k .says ring ok is, p, ok .0))

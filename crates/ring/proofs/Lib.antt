@@ -1,0 +1,4 @@
+pub mod Positions
+pub mod Finding
+pub mod Striking
+pub mod Sweeping

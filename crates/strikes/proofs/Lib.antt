@@ -1,0 +1,4 @@
+pub mod Through
+pub mod Admitting
+pub mod Placed
+pub mod OnRegister

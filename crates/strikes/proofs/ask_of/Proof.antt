@@ -1,0 +1,17 @@
+use borrow.Author.Needs.{needs}
+use Rattle.strikes.proofs.ask_of.Statement.{statement}
+use Rattle.strikes.proofs.ask_of.Tie as tie
+use Rattle.strikes.proofs.ask_of.Reads as reads
+use Rattle.strikes.proofs.ask_of.Lts as lts
+use Rattle.numbers.proofs.codes.deliverer_of.Reads as deliverer-of-reads
+
+-- src/lib.rt:54:9
+deliverer-of-requires : tie.Need-deliverer-of-requires
+deliverer-of-requires c κs = search needs
+
+-- src/lib.rt:51:1
+returns : tie.Need-returns
+returns c = rw (c .deliverer-of .ensures)
+
+pub ask-of-spec : {M : Type 1} → statement M
+ask-of-spec = tie.close (tie.spec deliverer-of-requires returns)

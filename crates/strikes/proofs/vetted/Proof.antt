@@ -1,0 +1,23 @@
+use borrow.Author.Tests.{not-true, not-false}
+use Rattle.strikes.proofs.Admitting.{codes-unlisted, codes-listed}
+use borrow.Author.Needs.{needs}
+use Rattle.strikes.proofs.vetted.Statement.{statement}
+use Rattle.strikes.proofs.vetted.Tie as tie
+use Rattle.strikes.proofs.vetted.Reads as reads
+use Rattle.strikes.proofs.vetted.Lts as lts
+use Rattle.vet.proofs.vet.Reads as vet-reads
+
+-- src/lib.rt:78:9
+returns : tie.Need-returns
+returns c = codes-unlisted (c .before .before .before .args .settings .now) (c .before .before .before .args .words .now) (c .before .before .before .args .codes) (not-true _ (c .if1 .taken))
+
+-- src/lib.rt:80:5
+vet-requires : tie.Need-vet-requires
+vet-requires c κs = search needs
+
+-- src/lib.rt:74:1
+returns-2 : tie.Need-returns-2
+returns-2 c = codes-listed (c .before .before .before .before .args .settings .now) (c .before .before .before .before .args .words .now) (c .before .before .before .before .args .codes) (not-false _ (c .before .if1 .left)) _ (c .vet .ensures)
+
+pub vetted-spec : {M : Type 1} → statement M
+vetted-spec = tie.close (tie.spec returns vet-requires returns-2)

@@ -1,0 +1,18 @@
+-- The refusals of a call up to its register number, as the code tries them.
+use Prim.Native.Nat.{ℕ}
+use mathlib.Core.Bool.{Bool, not, _&&_}
+use mathlib.Core.List.{List, [], _∷_}
+use lib.Dec.{leb}
+use Rattle.model.specs.Settings.{settings-of}
+use Rattle.model.specs.Calls.{Refusal, refusal, first-met, settings-words-fit, too-short, sound}
+
+-- 1, 2 and 3, for a call whose own codes are listed or not
+unfoldable pub vets : List ℕ → List ℕ → Bool → ℕ
+vets st ws codes =
+    first-met (refusal 1 (not (settings-words-fit st && codes)) ∷ refusal 2 (too-short st ws) ∷ refusal 3 (not (sound (settings-of st) ws)) ∷ [])
+
+-- and 4, for a call on a register
+unfoldable pub admits : List ℕ → List ℕ → Bool → ℕ → ℕ
+admits st ws codes r =
+    first-met (refusal 1 (not (settings-words-fit st && codes)) ∷ refusal 2 (too-short st ws) ∷ refusal 3 (not (sound (settings-of st) ws))
+    ∷ refusal 4 (leb (settings-of st .registers) r) ∷ [])

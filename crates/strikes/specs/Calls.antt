@@ -1,0 +1,16 @@
+-- The calls as the functions hand them on.
+use Prim.Native.Nat.{ℕ}
+use mathlib.Core.Path.{_≡_}
+use mathlib.Core.List.{List}
+use Rattle.model.specs.declared.Answer.{Answer}
+use Rattle.model.specs.Calls.{Manner, Ticket, Call, On, reply, after}
+
+-- a ticket on a register, with every number as it is handed in
+abbrev pub asking : Manner → ℕ → ℕ → ℕ → ℕ → ℕ → ℕ → ℕ → Call
+asking m register fp stamp reading flag kind number =
+    On register (Ticket m (record { fp = fp; stamp = stamp; ms = reading; flag = flag; kind = kind; number = number }))
+
+-- what a call tells and leaves: the reply, and every lent word, are those of the rules, refusals included
+pub record Told (st ws : List ℕ) (call : Call) (a : Answer) (left : List ℕ) : Type 0 where
+  pub answer : a ≡ reply st ws call
+  pub words : left ≡ after st ws call

@@ -1,0 +1,15 @@
+-- Where a register lies, as the calls know it.
+use Prim.Native.Nat.{ℕ, _+_, _≤_}
+use mathlib.Core.Path.{_≡_}
+use Rattle.model.specs.declared.Settings.{Settings}
+use Rattle.model.specs.Settings.{usable-at, words-needed}
+use Rattle.model.specs.Words.{register-start, register-width}
+use Rattle.strikes.specs.declared.Place.{Place}
+
+pub record PlaceAt (s : Settings) (r : ℕ) (p : Place) : Type 0 where
+  pub usable : p .u ≡ usable-at s r
+  pub start : p .start ≡ register-start s r
+  pub end : p .end ≡ p .start + register-width (p .u)
+  pub within : p .end ≤ words-needed s
+  -- few words, whatever the settings in bounds
+  pub few : p .end ≤ 3_355_520

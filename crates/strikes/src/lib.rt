@@ -1,0 +1,242 @@
+// The public calls. Each brings its settings as 29 words and the words that it may use. A call tries its refusals in their order,
+// 1, 2, 3, 4, 6, 5, 7, and a refusal alters nothing; otherwise it does what the rules say, and leaves what lies past the needed words.
+use model::Answer;
+use model::Judged;
+use model::Settings;
+use model::Usable;
+use numbers::bounds;
+use numbers::codes;
+use numbers::starts;
+use register::Ask;
+ghost use mathlib.Core.Path.{_≡_};
+ghost use mathlib.Core.Bool.{Bool, true, _&&_};
+ghost use Prim.Native.Nat.{_+_, _<_, _≤_};
+ghost use lib.ListN.{length};
+ghost use Rattle.model.specs.Settings.{settings-of};
+ghost use Rattle.model.specs.Class.{deliverer-fits};
+ghost use Rattle.model.specs.Codes.{flag-fits};
+ghost use Rattle.model.specs.Calls.{settings-words-fit, ask-of as ask-read, judged, judged-batch, On, Begin, Sweep, ContainsHash, Floor, Pending, SweptBucket, yes-no, reply};
+ghost use Rattle.register.specs.Rules.{asked-by};
+ghost use Rattle.strikes.specs.Admitted.{vets, admits};
+ghost use Rattle.strikes.specs.Calls.{asking, Told};
+ghost use Rattle.strikes.specs.Places.{PlaceAt};
+
+// A register's settings, and where its words lie.
+pub struct Place {
+    pub u: Usable,
+    pub start: usize,
+    pub end: usize,
+}
+
+// Where a register below R lies, under settings that are in bounds.
+fn place_of(settings: &[u64], register: u64) -> Place
+    requires { ⌜ (settings-words-fit (now settings) ≡ true) × (register < settings-of (now settings) .registers) ⌝ }
+    ensures { λ p. ⌜ PlaceAt (settings-of (now (settings .entry))) register p ⌝ }
+{
+    let s = bounds::settings_of(settings);
+    let r = register as usize;
+    let u = bounds::usable_in(s, r);
+    let start = starts::register_start(s, r);
+    let width = starts::register_width(u);
+    Place {
+        u: u,
+        start: start,
+        end: start + width,
+    }
+}
+
+// The codes that a ticket brings are listed.
+fn ticket_codes(flag: u64, kind: u64, number: u64) -> bool
+    ensures { λ r. ⌜ r ≡ (flag-fits flag && deliverer-fits kind number) ⌝ }
+{
+    let judging = codes::flag_fits(flag);
+    let who = codes::deliverer_fits(kind, number);
+    judging & who
+}
+
+// A ticket as it is asked about.
+fn ask_of(fp: u64, stamp: u64, reading: u64, flag: u64, kind: u64, number: u64) -> Ask
+    ensures { λ a. ⌜ asked-by a ≡ ask-read (record { fp = fp; stamp = stamp; ms = reading; flag = flag; kind = kind; number = number }) ⌝ }
+{
+    let who = codes::deliverer_of(kind, number);
+    Ask {
+        fp: fp,
+        stamp: stamp,
+        now: Judged(reading),
+        judging: flag == 1,
+        who: who,
+    }
+}
+
+// 0, or the first of the refusals 1, 2 and 3. `codes`: the call's own codes are listed.
+fn vetted(settings: &[u64], words: &[u64], codes: bool) -> u64
+    ensures { λ n. ⌜ n ≡ vets (now (settings .entry)) (now (words .entry)) codes ⌝ }
+{
+    if !codes {
+        return 1;
+    }
+    vet::vet(settings, words)
+}
+
+// The same of a call on one register, and 4.
+fn admitted(settings: &[u64], words: &[u64], codes: bool, register: u64) -> u64
+    ensures { λ n. ⌜ n ≡ admits (now (settings .entry)) (now (words .entry)) codes register ⌝ }
+{
+    let n = vetted(settings, words, codes);
+    if n != 0 {
+        return n;
+    }
+    let s = bounds::settings_of(settings);
+    if s.registers <= register {
+        return 4;
+    }
+    0
+}
+
+// What a ticket is. Nothing of it is remembered.
+pub fn judge(
+    settings: &[u64],
+    words: &mut [u64],
+    register: u64,
+    fp: u64,
+    stamp: u64,
+    reading: u64,
+    flag: u64,
+    kind: u64,
+    number: u64,
+) -> Answer
+    ensures { λ a. ⌜ Told (now (settings .entry)) (now (words .entry)) (asking judged register fp stamp reading flag kind number) a (now (words .exit)) ⌝ }
+{
+    let listed = ticket_codes(flag, kind, number);
+    let n = admitted(settings, words, listed, register);
+    if n != 0 {
+        return Answer::Refused(n);
+    }
+    let at = place_of(settings, register);
+    let ask = ask_of(fp, stamp, reading, flag, kind, number);
+    let a = at.start;
+    let e = at.end;
+    let verdict = register::judge(&mut words[a..e], at.u, ask);
+    Answer::Said(verdict)
+}
+
+// As judge, for a batch: a Late ticket past the window's front is Ahead.
+pub fn judge_batch(
+    settings: &[u64],
+    words: &mut [u64],
+    register: u64,
+    fp: u64,
+    stamp: u64,
+    reading: u64,
+    flag: u64,
+    kind: u64,
+    number: u64,
+) -> Answer
+    ensures { λ a. ⌜ Told (now (settings .entry)) (now (words .entry)) (asking judged-batch register fp stamp reading flag kind number) a (now (words .exit)) ⌝ }
+{
+    let listed = ticket_codes(flag, kind, number);
+    let n = admitted(settings, words, listed, register);
+    if n != 0 {
+        return Answer::Refused(n);
+    }
+    let at = place_of(settings, register);
+    let ask = ask_of(fp, stamp, reading, flag, kind, number);
+    let a = at.start;
+    let e = at.end;
+    let verdict = register::judge_batch(&mut words[a..e], at.u, ask);
+    Answer::Said(verdict)
+}
+
+// Begins: a pending register's floor is raised to the host's number. Later begins answer Already.
+pub fn begin(settings: &[u64], words: &mut [u64], register: u64, number: u64) -> Answer
+    ensures { λ a. ⌜ Told (now (settings .entry)) (now (words .entry)) (On register (Begin number)) a (now (words .exit)) ⌝ }
+{
+    let n = admitted(settings, words, true, register);
+    if n != 0 {
+        return Answer::Refused(n);
+    }
+    let at = place_of(settings, register);
+    let a = at.start;
+    let e = at.end;
+    register::begin(&mut words[a..e], number)
+}
+
+// Sweeps, as the host's tick does: what the clock has passed is dropped, and raises the floor.
+pub fn sweep(settings: &[u64], words: &mut [u64], register: u64, reading: u64) -> Answer
+    ensures { λ a. ⌜ Told (now (settings .entry)) (now (words .entry)) (On register (Sweep reading)) a (now (words .exit)) ⌝ }
+{
+    let n = admitted(settings, words, true, register);
+    if n != 0 {
+        return Answer::Refused(n);
+    }
+    let at = place_of(settings, register);
+    let a = at.start;
+    let e = at.end;
+    register::sweep(&mut words[a..e], at.u, Judged(reading));
+    Answer::Done
+}
+
+fn yes_or_no(yes: bool) -> Answer
+    ensures { λ a. ⌜ a ≡ yes-no yes ⌝ }
+{
+    if yes {
+        return Answer::Yes;
+    }
+    Answer::No
+}
+
+// Whether a fingerprint is held in any bucket of any class.
+pub fn contains_hash(settings: &[u64], words: &[u64], register: u64, fp: u64) -> Answer
+    ensures { λ a. ⌜ a ≡ reply (now (settings .entry)) (now (words .entry)) (On register (ContainsHash fp)) ⌝ }
+{
+    let n = admitted(settings, words, true, register);
+    if n != 0 {
+        return Answer::Refused(n);
+    }
+    let at = place_of(settings, register);
+    let a = at.start;
+    let e = at.end;
+    yes_or_no(register::contains_hash(&words[a..e], at.u, fp))
+}
+
+// The floor, if there is one.
+pub fn floor(settings: &[u64], words: &[u64], register: u64) -> Answer
+    ensures { λ a. ⌜ a ≡ reply (now (settings .entry)) (now (words .entry)) (On register Floor) ⌝ }
+{
+    let n = admitted(settings, words, true, register);
+    if n != 0 {
+        return Answer::Refused(n);
+    }
+    let at = place_of(settings, register);
+    let a = at.start;
+    let e = at.end;
+    register::floor(&words[a..e])
+}
+
+// Whether the register waits for the host's number.
+pub fn pending(settings: &[u64], words: &[u64], register: u64) -> Answer
+    ensures { λ a. ⌜ a ≡ reply (now (settings .entry)) (now (words .entry)) (On register Pending) ⌝ }
+{
+    let n = admitted(settings, words, true, register);
+    if n != 0 {
+        return Answer::Refused(n);
+    }
+    let at = place_of(settings, register);
+    let a = at.start;
+    let e = at.end;
+    yes_or_no(register::is_pending(&words[a..e]))
+}
+
+// The bucket up to which the register is swept, and that in milliseconds, as the share book reads it.
+pub fn swept(settings: &[u64], words: &[u64], register: u64) -> Answer
+    ensures { λ a. ⌜ a ≡ reply (now (settings .entry)) (now (words .entry)) (On register SweptBucket) ⌝ }
+{
+    let n = admitted(settings, words, true, register);
+    if n != 0 {
+        return Answer::Refused(n);
+    }
+    let at = place_of(settings, register);
+    let a = at.start;
+    let e = at.end;
+    register::swept(&words[a..e])
+}

@@ -1,0 +1,5 @@
+pub mod InRun
+pub mod AtRegister
+pub mod Draws
+pub mod Taking
+pub mod LeastOf

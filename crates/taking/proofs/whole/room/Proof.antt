@@ -1,0 +1,34 @@
+use Rattle.taking.proofs.AtRegister.{room-reads}
+use Rattle.taking.proofs.InRun.{register-asks}
+use borrow.Author.Needs.{needs}
+use Rattle.taking.proofs.whole.room.Statement.{statement}
+use Rattle.taking.proofs.whole.room.Tie as tie
+use Rattle.taking.proofs.whole.room.Reads as reads
+use Rattle.taking.proofs.whole.room.Lts as lts
+
+place-of-requires : tie.Need-place-of-requires
+place-of-requires c κs = search needs
+
+class-of-requires : tie.Need-class-of-requires
+class-of-requires c κs = search needs
+
+mul-room : tie.Need-mul-room
+mul-room c = search needs
+
+sub-room : tie.Need-sub-room
+sub-room c = search needs
+
+part-room-start : tie.Need-part-room-start
+part-room-start c = search needs
+
+part-room-end : tie.Need-part-room-end
+part-room-end c = search needs
+
+room-requires : tie.Need-room-requires
+room-requires c κs = let l = c .before .before .before in let s = l .before .before in (s .pre .1 .print, register-asks (s .args .s) (s .args .r) (s .pre .0 .1) _ (l .place-of .ensures) (s .args .run .now) (s .pre .0 .0))
+
+returns : tie.Need-returns
+returns c = let l = c .before .before .before .before in let s = l .before .before in room-reads (s .args .s) (s .args .r) (s .pre .0 .1) _ (l .place-of .ensures) (s .args .run .now) (s .args .ticket) _ (c .before .before .before .class-of .ensures) _ (c .room .ensures)
+
+pub room-spec : {M : Type 1} → statement M
+room-spec = tie.close (tie.spec place-of-requires class-of-requires mul-room sub-room part-room-start part-room-end room-requires returns)

@@ -1,0 +1,37 @@
+use Rattle.taking.proofs.AtRegister.{strike-asks, strike-turns}
+use Rattle.taking.proofs.InRun.{register-asks}
+use borrow.Author.Needs.{needs}
+use Rattle.taking.proofs.whole.strike.Statement.{statement}
+use Rattle.taking.proofs.whole.strike.Tie as tie
+use Rattle.taking.proofs.whole.strike.Reads as reads
+use Rattle.taking.proofs.whole.strike.Lts as lts
+
+place-of-requires : tie.Need-place-of-requires
+place-of-requires c κs = search needs
+
+class-of-requires : tie.Need-class-of-requires
+class-of-requires c κs = search needs
+
+mul-strike : tie.Need-mul-strike
+mul-strike c = search needs
+
+sub-strike : tie.Need-sub-strike
+sub-strike c = search needs
+
+part-strike-start : tie.Need-part-strike-start
+part-strike-start c = search needs
+
+part-strike-end : tie.Need-part-strike-end
+part-strike-end c = search needs
+
+strike-requires : tie.Need-strike-requires
+strike-requires c κs = let l = c .before .before .before in let s = l .before .before in ((s .pre .0 .1 .print, register-asks (s .args .s) (s .args .r) (s .pre .0 .0 .1) _ (l .place-of .ensures) (s .args .run .now) (s .pre .0 .0 .0)), strike-asks (s .args .s) (s .args .r) (s .pre .0 .0 .1) _ (l .place-of .ensures) (s .args .run .now) (s .args .ticket) _ (c .before .before .class-of .ensures) _ (s .pre .0 .0 .0) (s .pre .1))
+
+same-length : tie.Need-same-length
+same-length c = search needs
+
+returns : tie.Need-returns
+returns c = let l = c .before .before .before .before .before .before in let s = l .before .before in strike-turns (s .args .s) (s .args .r) (s .pre .0 .0 .1) _ (l .place-of .ensures) (s .args .run .now) (s .args .ticket) _ (c .before .before .before .before .before .class-of .ensures) _ (c .before .before .strike .ensures)
+
+pub strike-spec : {M : Type 1} → statement M
+strike-spec = tie.close (tie.spec place-of-requires class-of-requires mul-strike sub-strike part-strike-start part-strike-end strike-requires same-length returns)

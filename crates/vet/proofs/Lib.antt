@@ -1,0 +1,4 @@
+pub mod Bounds
+pub mod Tests
+pub mod Turns
+pub mod Entering
