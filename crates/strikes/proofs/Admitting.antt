@@ -91,6 +91,16 @@ module _ (a b c : Bool) (rest : List Refusal) where
       by-test a (λ p. let z : _≡_ {A = ℕ} 1 0 = rw p at e in absurd (omega arith)) (λ p. by-test b (λ q. let z : _≡_ {A = ℕ} 2 0 = rw (p, q) at e in absurd (omega arith))
       (λ q. by-test c (λ r. let z : _≡_ {A = ℕ} 3 0 = rw (p, q, r) at e in absurd (omega arith)) (λ r. (p, q, r))))
 
+-- where the first three are not met, the call's codes are listed
+pub vets-codes : (st ws : List ℕ) (codes : Bool) → vets st ws codes ≡ 0 → codes ≡ true
+unfolding vets
+vets-codes st ws codes e = both-true (settings-words-fit st) codes (not-false _ (none-of-three _ _ _ [] e .0)) .1
+
+-- and the settings are whole and in bounds
+pub vets-fit : (st ws : List ℕ) (codes : Bool) → vets st ws codes ≡ 0 → settings-words-fit st ≡ true
+unfolding vets
+vets-fit st ws codes e = both-true (settings-words-fit st) codes (not-false _ (none-of-three _ _ _ [] e .0)) .0
+
 -- such a call has no refusal after 3
 module _ (st ws : List ℕ) where
   book-list : (call : Call) → OnBook call → refused st ws call

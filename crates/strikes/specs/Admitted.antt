@@ -2,9 +2,9 @@
 use Prim.Native.Nat.{ℕ}
 use mathlib.Core.Bool.{Bool, not, _&&_}
 use mathlib.Core.List.{List, [], _∷_}
-use lib.Dec.{leb}
-use Rattle.model.specs.Settings.{settings-of}
-use Rattle.model.specs.Calls.{Refusal, refusal, first-met, settings-words-fit, too-short, sound}
+use lib.Dec.{leb, ltb}
+use Rattle.model.specs.Settings.{settings-of, words-needed}
+use Rattle.model.specs.Calls.{Refusal, refusal, first-met, settings-words-fit, limits-words-fit, starts-fit, too-short, sound}
 
 -- 1, 2 and 3, for a call whose own codes are listed or not
 unfoldable pub vets : List ℕ → List ℕ → Bool → ℕ
@@ -16,3 +16,9 @@ unfoldable pub admits : List ℕ → List ℕ → Bool → ℕ → ℕ
 admits st ws codes r =
     first-met (refusal 1 (not (settings-words-fit st && codes)) ∷ refusal 2 (too-short st ws) ∷ refusal 3 (not (sound (settings-of st) ws))
     ∷ refusal 4 (leb (settings-of st .registers) r) ∷ [])
+
+-- 1 and 2 of an opening, of so many words
+unfoldable pub opens : List ℕ → List ℕ → List ℕ → ℕ → ℕ
+opens st limits starts n =
+    first-met (refusal 1 (not (settings-words-fit st && (limits-words-fit limits && starts-fit (settings-of st) starts)))
+    ∷ refusal 2 (ltb n (words-needed (settings-of st))) ∷ [])

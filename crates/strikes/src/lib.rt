@@ -1,8 +1,10 @@
 // The public calls. Each brings its settings as 29 words and the words that it may use. A call tries its refusals in their order,
 // 1, 2, 3, 4, 6, 5, 7, and a refusal alters nothing; otherwise it does what the rules say, and leaves what lies past the needed words.
 use model::Answer;
+use model::Class;
 use model::Judged;
 use model::Settings;
+use model::Shares;
 use model::Usable;
 use numbers::bounds;
 use numbers::codes;
@@ -15,15 +17,22 @@ ghost use lib.ListN.{length};
 ghost use Rattle.model.specs.Settings.{settings-of};
 ghost use Rattle.model.specs.Class.{deliverer-fits};
 ghost use Rattle.model.specs.Codes.{flag-fits};
-ghost use Rattle.model.specs.Calls.{settings-words-fit, ask-of as ask-read, judged, judged-batch, On, Begin, Sweep, ContainsHash, Floor, Pending, SweptBucket, yes-no, reply};
+ghost use Rattle.model.specs.Calls.{settings-words-fit, ask-of as ask-read, judged, judged-batch, taken, taken-batch, On, Open, Close, SetLimits, HeldBy, ClassTotals, Begin, Sweep, ContainsHash, Floor, Pending, SweptBucket, yes-no, reply};
 ghost use Rattle.register.specs.Rules.{asked-by};
-ghost use Rattle.strikes.specs.Admitted.{vets, admits};
+ghost use Rattle.strikes.specs.Admitted.{vets, admits, opens};
 ghost use Rattle.strikes.specs.Calls.{asking, Told};
-ghost use Rattle.strikes.specs.Places.{PlaceAt};
+ghost use Rattle.strikes.specs.Places.{PlaceAt, SpanAt};
 
 // A register's settings, and where its words lie.
 pub struct Place {
     pub u: Usable,
+    pub start: usize,
+    pub end: usize,
+}
+
+// The share book's settings, and where a class's words lie.
+pub struct Span {
+    pub shares: Shares,
     pub start: usize,
     pub end: usize,
 }
@@ -239,4 +248,166 @@ pub fn swept(settings: &[u64], words: &[u64], register: u64) -> Answer
     let a = at.start;
     let e = at.end;
     register::swept(&words[a..e])
+}
+
+// As judge, and a new ticket is remembered: it draws on its deliverer's share, and is struck.
+pub fn take(
+    settings: &[u64],
+    words: &mut [u64],
+    register: u64,
+    fp: u64,
+    stamp: u64,
+    reading: u64,
+    flag: u64,
+    kind: u64,
+    number: u64,
+) -> Answer
+    ensures { λ a. ⌜ Told (now (settings .entry)) (now (words .entry)) (asking taken register fp stamp reading flag kind number) a (now (words .exit)) ⌝ }
+{
+    let listed = ticket_codes(flag, kind, number);
+    let n = admitted(settings, words, listed, register);
+    if n != 0 {
+        return Answer::Refused(n);
+    }
+    let s = bounds::settings_of(settings);
+    let need = starts::needed(s);
+    let ask = ask_of(fp, stamp, reading, flag, kind, number);
+    let r = register as usize;
+    let verdict = taking::take(&mut words[0..need], s, r, ask);
+    Answer::Said(verdict)
+}
+
+// As take, for a batch: judged as judge_batch judges it.
+pub fn take_batch(
+    settings: &[u64],
+    words: &mut [u64],
+    register: u64,
+    fp: u64,
+    stamp: u64,
+    reading: u64,
+    flag: u64,
+    kind: u64,
+    number: u64,
+) -> Answer
+    ensures { λ a. ⌜ Told (now (settings .entry)) (now (words .entry)) (asking taken-batch register fp stamp reading flag kind number) a (now (words .exit)) ⌝ }
+{
+    let listed = ticket_codes(flag, kind, number);
+    let n = admitted(settings, words, listed, register);
+    if n != 0 {
+        return Answer::Refused(n);
+    }
+    let s = bounds::settings_of(settings);
+    let need = starts::needed(s);
+    let ask = ask_of(fp, stamp, reading, flag, kind, number);
+    let r = register as usize;
+    let verdict = taking::take_batch(&mut words[0..need], s, r, ask);
+    Answer::Said(verdict)
+}
+
+// Closes the share book: every draw from now on is refused.
+pub fn close(settings: &[u64], words: &mut [u64]) -> Answer
+    ensures { λ a. ⌜ Told (now (settings .entry)) (now (words .entry)) Close a (now (words .exit)) ⌝ }
+{
+    let n = vetted(settings, words, true);
+    if n != 0 {
+        return Answer::Refused(n);
+    }
+    book::front::close(&mut words[0..20]);
+    Answer::Done
+}
+
+// Sets the five limits anew. Nothing that is held is freed by it.
+pub fn set_limits(settings: &[u64], words: &mut [u64], limits: &[u64]) -> Answer
+    ensures { λ a. ⌜ Told (now (settings .entry)) (now (words .entry)) (SetLimits (now (limits .entry))) a (now (words .exit)) ⌝ }
+{
+    let listed = vet::limits_fit(limits);
+    let n = vetted(settings, words, listed);
+    if n != 0 {
+        return Answer::Refused(n);
+    }
+    let wanted = bounds::limits_of(limits);
+    book::front::set_limits(&mut words[0..20], wanted);
+    Answer::Done
+}
+
+// 0, or the first of the refusals of an opening, 1 and 2: it overwrites the words and reads none.
+fn opening_refused(settings: &[u64], limits: &[u64], starts: &[u64], words: usize) -> u64
+    ensures { λ n. ⌜ n ≡ opens (now (settings .entry)) (now (limits .entry)) (now (starts .entry)) words ⌝ }
+{
+    if !vet::settings_fit(settings) {
+        return 1;
+    }
+    let s = bounds::settings_of(settings);
+    let bounded = vet::limits_fit(limits);
+    let listed = vet::starts_fit(s, starts);
+    if !(bounded & listed) {
+        return 1;
+    }
+    if vet::too_short(s, words) {
+        return 2;
+    }
+    0
+}
+
+// Opens the words: an empty book with these limits, and each register at its start.
+pub fn open(settings: &[u64], limits: &[u64], starts: &[u64], words: &mut [u64]) -> Answer
+    ensures { λ a. ⌜ Told (now (settings .entry)) (now (words .entry)) (Open (now (limits .entry)) (now (starts .entry))) a (now (words .exit)) ⌝ }
+{
+    let n = opening_refused(settings, limits, starts, words.len());
+    if n != 0 {
+        return Answer::Refused(n);
+    }
+    let s = bounds::settings_of(settings);
+    let wanted = bounds::limits_of(limits);
+    let need = starts::needed(s);
+    opening::open(&mut words[0..need], s, wanted, starts);
+    Answer::Done
+}
+
+// Where a class's share book lies, under settings that are in bounds.
+fn class_place(settings: &[u64], class: Class) -> Span
+    requires { ⌜ settings-words-fit (now settings) ≡ true ⌝ }
+    ensures { λ p. ⌜ SpanAt (settings-of (now (settings .entry))) class p ⌝ }
+{
+    let s = bounds::settings_of(settings);
+    let shares = s.shares;
+    let start = starts::class_start(s, class);
+    let width = starts::class_width(shares);
+    Span {
+        shares: shares,
+        start: start,
+        end: start + width,
+    }
+}
+
+// The entries that a deliverer holds.
+pub fn held(settings: &[u64], words: &[u64], kind: u64, number: u64) -> Answer
+    ensures { λ a. ⌜ a ≡ reply (now (settings .entry)) (now (words .entry)) (HeldBy kind number) ⌝ }
+{
+    let listed = codes::deliverer_fits(kind, number);
+    let n = vetted(settings, words, listed);
+    if n != 0 {
+        return Answer::Refused(n);
+    }
+    let who = codes::deliverer_of(kind, number);
+    let at = class_place(settings, codes::class_of(who));
+    let a = at.start;
+    let e = at.end;
+    Answer::Entries(book::held_by(&words[a..e], at.shares, who))
+}
+
+// A class's entries, holders, units and expired second.
+pub fn totals(settings: &[u64], words: &[u64], class: u64) -> Answer
+    ensures { λ a. ⌜ a ≡ reply (now (settings .entry)) (now (words .entry)) (ClassTotals class) ⌝ }
+{
+    let listed = codes::class_fits(class);
+    let n = vetted(settings, words, listed);
+    if n != 0 {
+        return Answer::Refused(n);
+    }
+    let at = class_place(settings, codes::class_at(class));
+    let a = at.start;
+    let e = at.end;
+    let t = book::held_of(&words[a..e]);
+    Answer::Totals(t.entries, t.holders, t.units, t.expired)
 }

@@ -1,0 +1,83 @@
+use Rattle.book.specs.declared.totals.Totals.{Totals}
+use Rattle.model.specs.declared.Answer.the-variants.{Totals as Answered}
+use Rattle.book.specs.Sums.{totals-of}
+use Rattle.model.specs.Calls.{ClassTotals, codes-fit, class-totals, step}
+use Rattle.strikes.proofs.Admitting.{totals}
+use mathlib.Core.Path.{refl, sym, _∙_, ap}
+use native.Mathlib.Omega.{arith}
+use Rattle.strikes.proofs.OnClass.{read-refused-book, settings-there, span-within, class-lies, totals-there, told-class}
+use borrow.Author.Needs.{needs}
+use Rattle.strikes.proofs.totals.Statement.{statement}
+use Rattle.strikes.proofs.totals.Tie as tie
+use Rattle.strikes.proofs.totals.Reads as reads
+use Rattle.strikes.proofs.totals.Lts as lts
+use Rattle.book.proofs.held_of.Reads as held-of-reads
+use Rattle.numbers.proofs.codes.class_at.Reads as class-at-reads
+use Rattle.numbers.proofs.codes.class_fits.Reads as class-fits-reads
+use Rattle.strikes.proofs.class_place.Reads as class-place-reads
+use Rattle.strikes.proofs.vetted.Reads as vetted-reads
+
+-- src/lib.rt:383:9
+class-fits-requires : tie.Need-class-fits-requires
+class-fits-requires c κs = search needs
+
+-- src/lib.rt:384:9
+vetted-requires : tie.Need-vetted-requires
+vetted-requires c κs = search needs
+
+-- src/lib.rt:386:9
+returns : tie.Need-returns
+unfolding codes-fit
+returns c = read-refused-book (c .before .before .before .before .before .args .settings .now) (c .before .before .before .before .before .args .words .now) (ClassTotals (c .before .before .before .before .before .args .class)) (totals (c .before .before .before .before .before .args .class)) _ (rw (c .before .before .class-fits .ensures) at (c .before .vetted .ensures)) (c .if1 .taken)
+
+-- src/lib.rt:388:36
+class-at-requires : tie.Need-class-at-requires
+class-at-requires c κs = search needs
+
+-- src/lib.rt:388:9
+class-place-requires : tie.Need-class-place-requires
+unfolding codes-fit
+class-place-requires c κs = settings-there (c .before .before .before .before .before .before .args .settings .now) (c .before .before .before .before .before .before .args .words .now) (ClassTotals (c .before .before .before .before .before .before .args .class)) (totals (c .before .before .before .before .before .before .args .class)) _ (rw (c .before .before .before .class-fits .ensures) at (c .before .before .vetted .ensures)) (c .before .if1 .left)
+
+-- src/lib.rt:391:27
+mul-held-of : tie.Need-mul-held-of
+mul-held-of c = search needs
+
+-- src/lib.rt:391:27
+sub-held-of : tie.Need-sub-held-of
+sub-held-of c = search needs
+
+-- src/lib.rt:391:27
+part-held-of-start : tie.Need-part-held-of-start
+part-held-of-start c = search needs
+
+-- src/lib.rt:391:27
+part-held-of-end : tie.Need-part-held-of-end
+unfolding codes-fit
+part-held-of-end c = search (span-within (c .before .before .before .before .before .before .before .args .settings .now) (c .before .before .before .before .before .before .before .args .words .now) (ClassTotals (c .before .before .before .before .before .before .before .args .class)) (totals (c .before .before .before .before .before .before .before .args .class)) _ (rw (c .before .before .before .before .class-fits .ensures) at (c .before .before .before .vetted .ensures)) (c .before .before .if1 .left) _ (c .class-place .result) (rw (c .before .class-at .ensures) at (c .class-place .ensures)), needs)
+
+-- src/lib.rt:391:9
+held-of-requires : tie.Need-held-of-requires
+unfolding codes-fit
+held-of-requires c κs = totals-there (c .before .before .before .before .before .before .before .before .args .settings .now) (c .before .before .before .before .before .before .before .before .args .words .now) (ClassTotals (c .before .before .before .before .before .before .before .before .args .class)) (totals (c .before .before .before .before .before .before .before .before .args .class)) _ (rw (c .before .before .before .before .before .class-fits .ensures) at (c .before .before .before .before .vetted .ensures)) (c .before .before .before .if1 .left) _ (c .before .class-place .result) (rw (c .before .before .class-at .ensures) at (c .before .class-place .ensures))
+
+-- src/lib.rt:380:1
+returns-2 : tie.Need-returns-2
+unfolding codes-fit step class-totals
+returns-2 c = told-class (c .before .before .before .before .before .before .before .before .before .args .settings .now) (c .before .before .before .before .before .before .before .before .before .args .words .now) (ClassTotals (c .before .before .before .before .before .before .before .before .before .args .class)) (totals (c .before .before .before .before .before .before .before .before .before .args .class)) _ (rw (c .before .before .before .before .before .before .class-fits .ensures) at (c .before .before .before .before .before .vetted .ensures)) (c .before .before .before .before .if1 .left) _ (c .before .before .class-place .result) (rw (c .before .before .before .class-at .ensures) at (c .before .before .class-place .ensures)) (λ (v : Totals). Answered (v .entries) (v .holders) (v .units) (v .expired)) totals-of (λ t. refl) _ (c .held-of .ensures _ _)
+
+pub totals-spec : {M : Type 1} → statement M
+totals-spec =
+    tie.close
+    (tie.spec
+    class-fits-requires
+    vetted-requires
+    returns
+    class-at-requires
+    class-place-requires
+    mul-held-of
+    sub-held-of
+    part-held-of-start
+    part-held-of-end
+    held-of-requires
+    returns-2)
