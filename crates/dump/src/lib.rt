@@ -1,10 +1,10 @@
 // A register's dump: its bytes as words, the walk over what a dump holds, and the writing of one.
-mod bytes;
+mod octets;
 mod walk;
 mod write;
 
-pub use bytes::put_word;
-pub use bytes::word_at;
+pub use octets::put_word;
+pub use octets::word_at;
 pub use walk::Found;
 pub use walk::Lengths;
 pub use walk::count_at;

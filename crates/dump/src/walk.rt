@@ -1,6 +1,6 @@
 // The walk over what a dump holds, by word positions: a floor, then for each class a count and so many generations, each of three
 // words (bucket, newest, length) and its fingerprints.
-use crate::bytes::word;
+use crate::octets::word;
 use model::Bucket;
 ghost use mathlib.Core.Path.{_≡_};
 ghost use Prim.Native.Nat.{_+_, _/_, _≤_, _<_};

@@ -1,5 +1,5 @@
 // Writing a dump. Each function writes from a byte position on and answers the position after what it wrote.
-use crate::bytes::put_word;
+use crate::octets::put_word;
 use generation::Generation;
 ghost use mathlib.Core.Path.{_≡_};
 ghost use mathlib.Core.Bool.{cond};

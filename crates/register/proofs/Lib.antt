@@ -2,3 +2,4 @@ pub mod HeadWords
 pub mod InRings
 pub mod Sweeps
 pub mod Verdicts
+pub mod Forgets

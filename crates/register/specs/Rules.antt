@@ -1,6 +1,7 @@
 -- The model's rules on one register, as the functions of this crate name them.
 use Prim.Native.Nat.{ℕ}
 use mathlib.Core.Bool.{cond}
+use mathlib.Core.Option.{none}
 use Rattle.model.specs.declared.Class.{Class}
 use Rattle.model.specs.declared.Answer.{Answer}
 use Rattle.model.specs.declared.Answer.the-variants.{Begun, Already, SweptTo}
@@ -10,6 +11,7 @@ use Rattle.model.specs.Numbers.{raise}
 use Rattle.model.specs.Class.{pick, swap}
 use Rattle.model.specs.Register.{Ring, Register, with-floor, with-rings, published}
 use Rattle.model.specs.Judge.{judge, judge-batch}
+use Rattle.model.specs.Dump.{drop-bucket}
 use Rattle.model.specs.Judge.{Ask as Asked}
 use Rattle.generation.specs.declared.Dropped.{Dropped}
 use Rattle.ring.specs.Sweep.{swept-ring, swept-says, raised-by}
@@ -40,6 +42,13 @@ begin-says reg = cond (reg .pending) Begun Already
 
 abbrev pub swept-answer : Usable → Register → Answer
 swept-answer u reg = SweptTo (reg .swept) (published u (reg .swept))
+
+-- a generation that failed, as `failed` has it; and no floor
+abbrev pub failed-at : Class → ℕ → ℕ → Register → Register
+failed-at c b newest reg = raised newest (in-ring c (drop-bucket b) reg)
+
+abbrev pub floor-gone : Register → Register
+floor-gone reg = with-floor none reg
 
 -- a question as the rules have it
 abbrev pub asked-by : Ask → Asked

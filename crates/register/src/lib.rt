@@ -1,15 +1,20 @@
 // One register in its own part of the lent words: a heading of 24 words (six kept settings, swept, the published sweep, whether
 // there is a floor, the floor, whether it is pending, 13 spare words), then a ring of generations for each class.
+mod forgetting;
 mod heading;
 mod judging;
 mod places;
 mod rings;
 mod sweeping;
 
+pub use forgetting::fail;
+pub use forgetting::forget_floor;
+pub use forgetting::raise_to_dumped;
 pub use heading::begin;
 pub use heading::floor;
 pub use heading::is_pending;
 pub use heading::published_sweep;
+pub use heading::raise_floor;
 pub use heading::swept;
 pub use judging::Ask;
 pub use judging::judge;

@@ -5,3 +5,5 @@ pub mod OnRegister
 pub mod OnWhole
 pub mod OnClass
 pub mod Opening
+pub mod OnDump
+pub mod OnRestore

@@ -105,6 +105,24 @@ module _ (st ws : List ℕ) (call : Call) (on : OnBook call) (n : ℕ) (e : n �
         let q = through-part st ws call (in-book .1) (in-book .0) (front-part s) 0 20 refl refl turn answer (says (held-in s ws)) (leaves (held-in s ws)) in
         record { answer = q .0; words = q .1 }
 
+    -- or by what one does to all needed words
+    module _ (need : ℕ) (is : need ≡ words-needed (settings-of st)) where
+      pub run-within : need ≤ length ws
+      run-within = let l = in-book .0 .long in omega arith
+
+      pub run-there : RunWords (settings-of st) (take (need - 0) ws)
+      run-there = run-lies (settings-of st) ws need is (in-book .0)
+
+      pub told-run : {R : Type 0} (answer : R → Answer) (f : State → State) (out : State → R)
+          → ((t : State) → step (settings-of st) call t .answer ≡ answer (out t)) → ((t : State) → step (settings-of st) call t .state ≡ f t)
+          → (last : List ℕ) (v : R) → StateTurns (settings-of st) f out (take (need - 0) ws) last v
+          → Told st ws call (answer v) (last ++ drop (need - 0) ws)
+      told-run answer f out says leaves last v turn =
+          let s = settings-of st in
+          let w = state-wide s (in-book .0 .fit) in
+          let q = through-part st ws call (in-book .1) (in-book .0) (whole-part s) 0 need refl (omega arith) turn answer (says (held-in s ws)) (leaves (held-in s ws)) in
+          record { answer = q .0; words = q .1 }
+
 -- limits that are handed in whole
 pub limits-long : (ls : List ℕ) → limits-words-fit ls ≡ true → length ls ≡ 5
 unfolding limits-words-fit

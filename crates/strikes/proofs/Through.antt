@@ -50,6 +50,14 @@ module _ {B : Type 0} (s : Settings) (k : ℕ) {G : Form B} {a : ℕ} {get : Sta
       → Part (lent-form s k) G (0 + a) (λ x. get (x .head)) (λ x y. record { head = put (x .head) y; body = x .body })
   lent-part p = in-part (head-part (state-form s) (free k) (state-exact s)) p
 
+-- ---- what a reader of one part says of the state that is held
+module _ {B R : Type 0} {G : Form B} {a : ℕ} (s : Settings) (ws : List ℕ) (e : Entered s ws) (get : State → B) {put : State → B → State} (p : Part (state-form s) G a get put)
+    (from to : ℕ) (hf : from ≡ a) (ht : to ≡ from + G .wide) {out : B → R} {r : R} where
+  pub seen-part : Reads (G .enc) (G .Ok) out (midOf from (to - from) ws) r → r ≡ out (get (held-in s ws))
+  seen-part reads =
+      let z : from ≡ 0 + a = omega arith in
+      part-reads (lent-part s (length (past-words s ws)) p .lies) from to z ht reads .says (lent s ws) (e .ok) (e .words)
+
 -- ---- the call's reply and words, from what the step does
 module _ (st ws : List ℕ) (call : Call) (none : refused st ws call ≡ 0) where
   pub replied : reply st ws call ≡ step (settings-of st) call (held-in (settings-of st) ws) .answer
@@ -80,12 +88,7 @@ module _ (st ws : List ℕ) (call : Call) (none : refused st ws call ≡ 0) wher
       (reads : Reads (G .enc) (G .Ok) out (midOf from (to - from) ws) r) (answer : R → Answer)
       (answers : step (settings-of st) call (held-in (settings-of st) ws) .answer ≡ answer (out (get (held-in (settings-of st) ws)))) where
     pub read-part : answer r ≡ reply st ws call
-    read-part =
-        let s = settings-of st in
-        let k = length (past-words s ws) in
-        let z : from ≡ 0 + a = omega arith in
-        let t = part-reads (lent-part s k p .lies) from to z ht reads .says (lent s ws) (e .ok) (e .words) in
-        ap answer t ∙ sym answers ∙ sym replied
+    read-part = ap answer (seen-part (settings-of st) ws e get p from to hf ht reads) ∙ sym answers ∙ sym replied
 
 -- ---- a call that is refused
 pub refused-reply : (st ws : List ℕ) (call : Call) (n : ℕ) → refused st ws call ≡ n → (n ≡ 0 → ⊥) → (Refused n ≡ reply st ws call) × (ws ≡ after st ws call)

@@ -3,7 +3,10 @@ use Prim.Native.Nat.{ℕ}
 use mathlib.Core.Bool.{Bool, not, _&&_}
 use mathlib.Core.List.{List, [], _∷_}
 use lib.Dec.{leb, ltb}
+use lib.ListN.{length}
 use Rattle.model.specs.Settings.{settings-of, words-needed}
+use Rattle.model.specs.Register.{Register}
+use Rattle.model.specs.Dump.{dump-bytes}
 use Rattle.model.specs.Calls.{Refusal, refusal, first-met, settings-words-fit, limits-words-fit, starts-fit, too-short, sound}
 
 -- 1, 2 and 3, for a call whose own codes are listed or not
@@ -22,3 +25,7 @@ unfoldable pub opens : List ℕ → List ℕ → List ℕ → ℕ → ℕ
 opens st limits starts n =
     first-met (refusal 1 (not (settings-words-fit st && (limits-words-fit limits && starts-fit (settings-of st) starts)))
     ∷ refusal 2 (ltb n (words-needed (settings-of st))) ∷ [])
+
+-- 6 and 5 of a dump, into an output of so many bytes
+unfoldable pub dump-refusal : ℕ → Register → ℕ
+dump-refusal room reg = first-met (refusal 6 (reg .pending) ∷ refusal 5 (ltb room (length (dump-bytes reg))) ∷ [])

@@ -1,9 +1,11 @@
 -- The calls as the functions hand them on.
 use Prim.Native.Nat.{ℕ}
 use mathlib.Core.Path.{_≡_}
+use mathlib.Core.Bool.{Bool, cond}
 use mathlib.Core.List.{List}
 use Rattle.model.specs.declared.Answer.{Answer}
-use Rattle.model.specs.Calls.{Manner, Ticket, Call, On, reply, after}
+use Rattle.model.specs.declared.Answer.the-variants.{Whole, Partly}
+use Rattle.model.specs.Calls.{Manner, Ticket, Call, On, reply, after, output-after}
 
 -- a ticket on a register, with every number as it is handed in
 abbrev pub asking : Manner → ℕ → ℕ → ℕ → ℕ → ℕ → ℕ → ℕ → Call
@@ -14,3 +16,12 @@ asking m register fp stamp reading flag kind number =
 pub record Told (st ws : List ℕ) (call : Call) (a : Answer) (left : List ℕ) : Type 0 where
   pub answer : a ≡ reply st ws call
   pub words : left ≡ after st ws call
+
+-- what a dump tells and writes: the reply, and every byte of the output, are those of the rules, refusals included
+pub record ToldBytes (st ws : List ℕ) (call : Call) (a : Answer) (left : List ℕ) : Type 0 where
+  pub answer : a ≡ reply st ws call
+  pub bytes : left ≡ output-after st ws call
+
+-- what a restore that read so many bytes answers
+abbrev pub restore-answer : ℕ → Bool → Answer
+restore-answer read whole = cond whole (Whole read) (Partly read)

@@ -1,5 +1,6 @@
 // The public calls. Each brings its settings as 29 words and the words that it may use. A call tries its refusals in their order,
 // 1, 2, 3, 4, 6, 5, 7, and a refusal alters nothing; otherwise it does what the rules say, and leaves what lies past the needed words.
+use dump::Lengths;
 use model::Answer;
 use model::Class;
 use model::Judged;
@@ -17,10 +18,11 @@ ghost use lib.ListN.{length};
 ghost use Rattle.model.specs.Settings.{settings-of};
 ghost use Rattle.model.specs.Class.{deliverer-fits};
 ghost use Rattle.model.specs.Codes.{flag-fits};
-ghost use Rattle.model.specs.Calls.{settings-words-fit, ask-of as ask-read, judged, judged-batch, taken, taken-batch, On, Open, Close, SetLimits, HeldBy, ClassTotals, Begin, Sweep, ContainsHash, Floor, Pending, SweptBucket, yes-no, reply};
+ghost use Rattle.model.specs.Calls.{settings-words-fit, ask-of as ask-read, judged, judged-batch, taken, taken-batch, On, Open, Close, Expire, SetLimits, HeldBy, ClassTotals, Begin, Sweep, ContainsHash, DumpTo, Restore, Resume, Floor, Pending, SweptBucket, yes-no, reply};
 ghost use Rattle.register.specs.Rules.{asked-by};
-ghost use Rattle.strikes.specs.Admitted.{vets, admits, opens};
-ghost use Rattle.strikes.specs.Calls.{asking, Told};
+ghost use Rattle.register.specs.Words.{RegisterWords, RegisterReads};
+ghost use Rattle.strikes.specs.Admitted.{vets, admits, opens, dump-refusal};
+ghost use Rattle.strikes.specs.Calls.{asking, Told, ToldBytes, restore-answer};
 ghost use Rattle.strikes.specs.Places.{PlaceAt, SpanAt};
 
 // A register's settings, and where its words lie.
@@ -316,6 +318,20 @@ pub fn close(settings: &[u64], words: &mut [u64]) -> Answer
     Answer::Done
 }
 
+// Gives back to the deliverers what the clock and every register's sweep have passed.
+pub fn expire(settings: &[u64], words: &mut [u64], reading: u64) -> Answer
+    ensures { λ a. ⌜ Told (now (settings .entry)) (now (words .entry)) (Expire reading) a (now (words .exit)) ⌝ }
+{
+    let n = vetted(settings, words, true);
+    if n != 0 {
+        return Answer::Refused(n);
+    }
+    let s = bounds::settings_of(settings);
+    let need = starts::needed(s);
+    expiring::expire(&mut words[0..need], s, Judged(reading));
+    Answer::Done
+}
+
 // Sets the five limits anew. Nothing that is held is freed by it.
 pub fn set_limits(settings: &[u64], words: &mut [u64], limits: &[u64]) -> Answer
     ensures { λ a. ⌜ Told (now (settings .entry)) (now (words .entry)) (SetLimits (now (limits .entry))) a (now (words .exit)) ⌝ }
@@ -410,4 +426,92 @@ pub fn totals(settings: &[u64], words: &[u64], class: u64) -> Answer
     let e = at.end;
     let t = book::held_of(&words[a..e]);
     Answer::Totals(t.entries, t.holders, t.units, t.expired)
+}
+
+// 0, or the first of the refusals of a dump that come after 4: 6 while the register is pending, 5 where the output is too short.
+fn dump_refused(part: &[u64], u: Usable, room: usize) -> u64
+    requires { ⌜ RegisterWords u (now part) ⌝ }
+    ensures { λ n. ⌜ RegisterReads u (dump-refusal room) (now (part .entry)) n ⌝ }
+{
+    if register::is_pending(part) {
+        return 6;
+    }
+    let long = dumping::dump_length(part, u);
+    if room < long {
+        return 5;
+    }
+    0
+}
+
+// Writes a register's dump at the start of an output, and leaves what lies behind it. The words are only read.
+pub fn dump(settings: &[u64], words: &[u64], register: u64, out: &mut [u8]) -> Answer
+    ensures { λ a. ⌜ ToldBytes (now (settings .entry)) (now (words .entry)) (On register (DumpTo (now (out .entry)))) a (now (out .exit)) ⌝ }
+{
+    let n = admitted(settings, words, true, register);
+    if n != 0 {
+        return Answer::Refused(n);
+    }
+    let at = place_of(settings, register);
+    let a = at.start;
+    let e = at.end;
+    let late = dump_refused(&words[a..e], at.u, out.len());
+    if late != 0 {
+        return Answer::Refused(late);
+    }
+    let long = dumping::dump(out, &words[a..e], at.u);
+    Answer::Dumped(long as u64)
+}
+
+// What a restore answers that read so many bytes of a dump.
+fn told_restored(whole: bool, read: u64) -> Answer
+    ensures { λ a. ⌜ a ≡ restore-answer read whole ⌝ }
+{
+    if whole {
+        return Answer::Whole(read);
+    }
+    Answer::Partly(read)
+}
+
+// Reads a dump back into a register. What lies behind the dump is not looked at, and one that is cut short is refused.
+pub fn restore(settings: &[u64], words: &mut [u64], register: u64, bytes: &[u8]) -> Answer
+    ensures { λ a. ⌜ Told (now (settings .entry)) (now (words .entry)) (On register (Restore (now (bytes .entry)))) a (now (words .exit)) ⌝ }
+{
+    let n = admitted(settings, words, true, register);
+    if n != 0 {
+        return Answer::Refused(n);
+    }
+    let Lengths::Read(long) = dump::read_lengths(bytes) else {
+        return Answer::Refused(7);
+    };
+    let s = bounds::settings_of(settings);
+    let need = starts::needed(s);
+    let r = register as usize;
+    let whole = restoring::restore(&mut words[0..need], s, r, bytes);
+    told_restored(whole, 8 * (long as u64))
+}
+
+// As restore, but the register's own floor is forgotten first. `flag` is 1 where a floor is proven, to which it is raised after.
+pub fn resume(
+    settings: &[u64],
+    words: &mut [u64],
+    register: u64,
+    bytes: &[u8],
+    flag: u64,
+    floor: u64,
+) -> Answer
+    ensures { λ a. ⌜ Told (now (settings .entry)) (now (words .entry)) (On register (Resume (now (bytes .entry)) flag floor)) a (now (words .exit)) ⌝ }
+{
+    let listed = codes::flag_fits(flag);
+    let n = admitted(settings, words, listed, register);
+    if n != 0 {
+        return Answer::Refused(n);
+    }
+    let Lengths::Read(long) = dump::read_lengths(bytes) else {
+        return Answer::Refused(7);
+    };
+    let s = bounds::settings_of(settings);
+    let need = starts::needed(s);
+    let r = register as usize;
+    let whole = restoring::resume(&mut words[0..need], s, r, bytes, flag == 1, floor);
+    told_restored(whole, 8 * (long as u64))
 }

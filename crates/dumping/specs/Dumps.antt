@@ -1,0 +1,20 @@
+-- A register's dump into an output, said of every register that the words may be.
+use Prim.Native.Nat.{ℕ, _≤_}
+use mathlib.Core.Path.{_≡_}
+use mathlib.Core.List.{List}
+use lib.ListN.{length}
+use Rattle.model.specs.declared.Usable.{Usable}
+use Rattle.model.specs.Register.{Register}
+use Rattle.model.specs.RegisterWords.{register-form}
+use Rattle.model.specs.Dump.{dump-bytes}
+use Rattle.model.specs.Calls.{written-over}
+use Rattle.register.specs.Words.{RegisterReads}
+
+-- the output has room for it
+pub record Holds (u : Usable) (ws out : List ℕ) : Type 0 where
+  pub room : (reg : Register) → register-form u .Ok reg → ws ≡ register-form u .enc reg → length (dump-bytes reg) ≤ length out
+
+-- its bytes are written over the output's first, and n is how many there are
+pub record Dumps (u : Usable) (ws before after : List ℕ) (n : ℕ) : Type 0 where
+  pub bytes : RegisterReads u (λ reg. written-over (dump-bytes reg) before) ws after
+  pub count : RegisterReads u (λ reg. length (dump-bytes reg)) ws n

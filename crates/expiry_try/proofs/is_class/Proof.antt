@@ -1,0 +1,29 @@
+use mathlib.Core.Path.{sym, _∙_}
+use Rattle.expiry_try.proofs.Sound.{in-bounds, is-class}
+use Rattle.runs.proofs.Cases.{no}
+use borrow.Author.Needs.{needs}
+use Rattle.expiry_try.proofs.is_class.Statement.{statement}
+use Rattle.expiry_try.proofs.is_class.Tie as tie
+use Rattle.expiry_try.proofs.is_class.Reads as reads
+use Rattle.expiry_try.proofs.is_class.Lts as lts
+use Rattle.audit.proofs.class_sound.Reads as class-sound-reads
+use Rattle.expiry_try.proofs.shares.Reads as shares-reads
+
+-- src/main.rt:61:9
+returns : tie.Need-returns
+returns c = λ t. no (cc)
+
+-- src/main.rt:63:31
+shares-requires : tie.Need-shares-requires
+shares-requires c κs = search needs
+
+-- src/main.rt:63:5
+class-sound-requires : tie.Need-class-sound-requires
+class-sound-requires c κs = in-bounds _ (c .shares .ensures) _ (c .before .if1 .left)
+
+-- src/main.rt:57:1
+returns-2 : tie.Need-returns-2
+returns-2 c = λ t. is-class _ (c .before .before .if1 .left) (sym (rw (c .before .shares .ensures) at (c .class-sound .ensures)) ∙ t)
+
+pub is-class-spec : {M : Type 1} → statement M
+is-class-spec = tie.close (tie.spec returns shares-requires class-sound-requires returns-2)

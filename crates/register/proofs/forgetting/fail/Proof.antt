@@ -1,0 +1,60 @@
+use Rattle.register.proofs.Forgets.{fail-turns, fail-words}
+use Rattle.register.proofs.InRings.{ring-asks, ring-turns}
+use borrow.Author.Needs.{needs}
+use Rattle.register.proofs.forgetting.fail.Statement.{statement}
+use Rattle.register.proofs.forgetting.fail.Tie as tie
+use Rattle.register.proofs.forgetting.fail.Reads as reads
+use Rattle.register.proofs.forgetting.fail.Lts as lts
+use Rattle.register.proofs.heading.raise_floor.Reads as raise-floor-reads
+use Rattle.register.proofs.places.ring_at.Reads as ring-at-reads
+use Rattle.ring.proofs.drop_bucket.Reads as drop-bucket-reads
+
+-- src/forgetting.rt:20:9
+ring-at-requires : tie.Need-ring-at-requires
+ring-at-requires c κs = search needs
+
+-- src/forgetting.rt:23:23
+mul-drop-bucket : tie.Need-mul-drop-bucket
+mul-drop-bucket c = search needs
+
+-- src/forgetting.rt:23:23
+sub-drop-bucket : tie.Need-sub-drop-bucket
+sub-drop-bucket c = search needs
+
+-- src/forgetting.rt:23:23
+part-drop-bucket-start : tie.Need-part-drop-bucket-start
+part-drop-bucket-start c = search needs
+
+-- src/forgetting.rt:23:23
+part-drop-bucket-end : tie.Need-part-drop-bucket-end
+part-drop-bucket-end c = search needs
+
+-- src/forgetting.rt:23:5
+drop-bucket-requires : tie.Need-drop-bucket-requires
+drop-bucket-requires c κs = let s = c .before .before .before in ring-asks _ _ _ (c .before .ring-at .ensures) (s .args .part .now) (s .pre)
+
+-- src/forgetting.rt:24:5
+raise-floor-requires : tie.Need-raise-floor-requires
+raise-floor-requires c κs = search needs
+
+-- src/forgetting.rt:16:1
+same-length : tie.Need-same-length
+same-length c = search needs
+
+-- src/forgetting.rt:16:1
+returns : tie.Need-returns
+returns c = let d = c .before .before .before .before .before .before in let s = d .before .before .before .before in let t = fail-turns (s .args .u) (s .args .class) (s .args .bucket .0) (s .args .newest) _ _ _ _ (ring-turns _ _ _ (d .before .before .ring-at .ensures) (d .drop-bucket .ensures .1)) (c .before .before .raise-floor .ensures (s .args .u)) in (fail-words (s .args .u) (s .args .class) (s .args .bucket .0) (s .args .newest) _ _ t (s .pre), t)
+
+pub fail-spec : {M : Type 1} → statement M
+fail-spec =
+    tie.close
+    (tie.spec
+    ring-at-requires
+    mul-drop-bucket
+    sub-drop-bucket
+    part-drop-bucket-start
+    part-drop-bucket-end
+    drop-bucket-requires
+    raise-floor-requires
+    same-length
+    returns)

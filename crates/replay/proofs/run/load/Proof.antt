@@ -1,0 +1,68 @@
+use mathlib.Core.Path.{_≡_}
+use Prim.Native.Nat.{_+_, _-_, _≤_}
+use lib.ListN.{length}
+use borrow.Author.Needs.{needs}
+use Rattle.replay.proofs.run.load.Statement.{statement}
+use Rattle.replay.proofs.run.load.Tie as tie
+use Rattle.replay.proofs.run.load.Reads as reads
+use Rattle.replay.proofs.run.load.Lts as lts
+use Rattle.calls_text.proofs.call.word_at.Reads as word-at-reads
+use Rattle.replay.proofs.run.least.Reads as least-reads
+use Rattle.replay.proofs.run.place_of.Reads as place-of-reads
+
+abbrev Inv-loop : tie.InvT-loop
+Inv-loop settings₀ args n i₀ settings i = (i ≤ n) × (length settings ≡ length settings₀)
+
+abbrev μ-loop : tie.MeasureT-loop
+μ-loop settings₀ args n i₀ settings i = n - i
+
+least-requires : tie.Need-least-requires Inv-loop μ-loop
+least-requires c κs = search needs
+
+loop-holds : tie.Need-loop-holds Inv-loop μ-loop
+loop-holds c = search needs
+
+place-of-requires : tie.Need-place-of-requires Inv-loop μ-loop
+place-of-requires c κs = search needs
+
+word-at-requires : tie.Need-word-at-requires Inv-loop μ-loop
+word-at-requires c κs = search needs
+
+mul-settings : tie.Need-mul-settings Inv-loop μ-loop
+mul-settings c = search needs
+
+slice-write-settings : tie.Need-slice-write-settings Inv-loop μ-loop
+slice-write-settings c = search needs
+
+add-i : tie.Need-add-i Inv-loop μ-loop
+add-i c = search needs
+
+loop-less : tie.Need-loop-less Inv-loop μ-loop
+loop-less c = search needs
+
+loop-again : tie.Need-loop-again Inv-loop μ-loop
+loop-again c = search needs
+
+same-length : tie.Need-same-length Inv-loop μ-loop
+same-length c = search needs
+
+returns : tie.Need-returns Inv-loop μ-loop
+returns c = search needs
+
+pub load-spec : {M : Type 1} → statement M
+load-spec =
+    tie.close
+    (tie.spec
+    Inv-loop
+    μ-loop
+    least-requires
+    loop-holds
+    place-of-requires
+    word-at-requires
+    mul-settings
+    slice-write-settings
+    add-i
+    loop-less
+    loop-again
+    same-length
+    returns)

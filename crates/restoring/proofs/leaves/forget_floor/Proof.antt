@@ -1,0 +1,53 @@
+use Rattle.restoring.proofs.Registers.{forget-acts}
+use borrow.Author.Needs.{needs}
+use Rattle.restoring.proofs.leaves.forget_floor.Statement.{statement}
+use Rattle.restoring.proofs.leaves.forget_floor.Tie as tie
+use Rattle.restoring.proofs.leaves.forget_floor.Reads as reads
+use Rattle.restoring.proofs.leaves.forget_floor.Lts as lts
+use Rattle.register.proofs.forget_floor.Reads as forget-floor-reads
+use Rattle.restoring.proofs.leaves.place_of.Reads as place-of-reads
+
+-- src/leaves.rt:106:9
+place-of-requires : tie.Need-place-of-requires
+place-of-requires c κs = search needs
+
+-- src/leaves.rt:109:28
+mul-forget-floor : tie.Need-mul-forget-floor
+mul-forget-floor c = search needs
+
+-- src/leaves.rt:109:28
+sub-forget-floor : tie.Need-sub-forget-floor
+sub-forget-floor c = search needs
+
+-- src/leaves.rt:109:28
+part-forget-floor-start : tie.Need-part-forget-floor-start
+part-forget-floor-start c = search needs
+
+-- src/leaves.rt:109:28
+part-forget-floor-end : tie.Need-part-forget-floor-end
+part-forget-floor-end c = search needs
+
+-- src/leaves.rt:109:5
+forget-floor-requires : tie.Need-forget-floor-requires
+forget-floor-requires c κs = search needs
+
+-- src/leaves.rt:102:1
+same-length : tie.Need-same-length
+same-length c = search needs
+
+-- src/leaves.rt:102:1
+returns : tie.Need-returns
+returns c = let s = c .before .before .before .before .before .before in forget-acts (s .args .s) (s .args .r) (s .pre .1) _ (c .before .before .before .before .place-of .ensures) (s .args .run .now) _ (s .pre .0) (c .before .before .forget-floor .ensures)
+
+pub forget-floor-spec : {M : Type 1} → statement M
+forget-floor-spec =
+    tie.close
+    (tie.spec
+    place-of-requires
+    mul-forget-floor
+    sub-forget-floor
+    part-forget-floor-start
+    part-forget-floor-end
+    forget-floor-requires
+    same-length
+    returns)

@@ -1,0 +1,13 @@
+-- Where a register lies in the run.
+use Prim.Native.Nat.{ℕ, _+_, _≤_}
+use mathlib.Core.Path.{_≡_}
+use Rattle.model.specs.declared.Settings.{Settings}
+use Rattle.model.specs.Settings.{usable-at, words-needed}
+use Rattle.model.specs.Words.{register-width, register-start}
+use Rattle.restoring.specs.declared.leaves.Place.{Place}
+
+pub record RegisterAt (s : Settings) (r : ℕ) (p : Place) : Type 0 where
+  pub usable : p .u ≡ usable-at s r
+  pub start : p .start ≡ register-start s r
+  pub end : p .end ≡ p .start + register-width (usable-at s r)
+  pub within : p .end ≤ words-needed s

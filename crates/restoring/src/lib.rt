@@ -1,0 +1,57 @@
+// Restore and resume: a register's dump is read back, in the whole run of words that the settings need.
+mod classes;
+mod heads;
+mod holding;
+mod leaves;
+
+use model::Class;
+use model::Settings;
+ghost use mathlib.Core.Option.{some};
+ghost use Prim.Native.Nat.{_<_};
+ghost use Rattle.model.specs.Dump.{words-of};
+ghost use Rattle.model.specs.Calls.{restored, resumed};
+ghost use Rattle.dump.specs.Walk.{Whole, dump-at, dump-end};
+ghost use Rattle.taking.specs.Words.{RunWords, StateTurns};
+ghost use Rattle.restoring.specs.Rules.{RestoreActs, dump-restored, restored-whole, proven-to, resumed-whole};
+
+// A dump whose lengths have been read: its floor, then its three classes.
+fn restore_dump(run: &mut [u64], s: Settings, r: usize, bytes: &[u8]) -> bool
+    requires { ⌜ (RunWords s (now run) × (r < s .registers)) × Whole (now bytes) (dump-end (words-of (now bytes))) ⌝ }
+    ensures { λ v. ⌜ RunWords s (now (run .exit)) × RestoreActs s r (dump-restored s r (dump-at (words-of (now (bytes .entry))))) (now (run .entry)) (now (run .exit)) v ⌝ }
+{
+    let floor = dump::floor_word(bytes);
+    leaves::raise_to_dumped(run, s, r, floor);
+    let feeders = classes::restore_class(run, s, r, Class::Feeders, bytes, 1, true);
+    let peers = classes::restore_class(run, s, r, Class::Peers, bytes, feeders.next, feeders.whole);
+    let own = classes::restore_class(run, s, r, Class::Own, bytes, peers.next, peers.whole);
+    own.whole
+}
+
+// Reads a register's dump back, whose lengths have been read. Whether all of it is held.
+pub fn restore(run: &mut [u64], s: Settings, r: usize, bytes: &[u8]) -> bool
+    requires { ⌜ (RunWords s (now run) × (r < s .registers)) × Whole (now bytes) (dump-end (words-of (now bytes))) ⌝ }
+    ensures { λ v. ⌜ RunWords s (now (run .exit)) × StateTurns s (λ t. restored s r t (some (dump-at (words-of (now (bytes .entry))))) .state) (restored-whole s r (dump-at (words-of (now (bytes .entry))))) (now (run .entry)) (now (run .exit)) v ⌝ }
+{
+    restore_dump(run, s, r, bytes)
+}
+
+// The same, and the floor is forgotten first and raised to a proven one after.
+pub fn resume(
+    run: &mut [u64],
+    s: Settings,
+    r: usize,
+    bytes: &[u8],
+    proven: bool,
+    floor: u64,
+) -> bool
+    requires { ⌜ (RunWords s (now run) × (r < s .registers)) × Whole (now bytes) (dump-end (words-of (now bytes))) ⌝ }
+    ensures { λ v. ⌜ RunWords s (now (run .exit)) × StateTurns s (λ t. resumed s r t (proven-to proven floor) (some (dump-at (words-of (now (bytes .entry))))) .state) (resumed-whole s r (dump-at (words-of (now (bytes .entry)))) (proven-to proven floor)) (now (run .entry)) (now (run .exit)) v ⌝ }
+{
+    leaves::forget_floor(run, s, r);
+    let whole = restore_dump(run, s, r, bytes);
+    if !proven {
+        return whole;
+    }
+    leaves::raise_floor(run, s, r, floor);
+    whole
+}

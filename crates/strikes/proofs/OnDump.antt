@@ -1,0 +1,122 @@
+-- A dump: refused, or the bytes that the rules say.
+use Prim.Native.Nat.{ℕ, zero, suc, _+_, _-_, _*_, _<_, _≤_}
+use native.Mathlib.Omega.{arith}
+use mathlib.Core.Path.{_≡_, refl, sym, _∙_, ap, subst}
+use mathlib.Core.Bool.{Bool, true, false, cond}
+use mathlib.Core.List.{List, [], _∷_, _++_}
+use lib.Dec.{ltb, eqb}
+use lib.ListN.{length}
+use borrow.Author.Tests.{ltb-false, lt-ltb, le-ltb, ne-eqb}
+use borrow.Rule.Slice.PartMut.{midOf}
+use Rattle.model.specs.declared.Answer.{Answer}
+use Rattle.model.specs.declared.Answer.the-variants.{Refused, Dumped}
+use Rattle.model.specs.declared.Usable.{Usable}
+use Rattle.runs.proofs.Cases.{by-test}
+use Rattle.model.specs.Settings.{settings-of, usable-at}
+use Rattle.model.specs.Register.{Register}
+use Rattle.model.specs.RegisterWords.{register-form}
+use Rattle.model.specs.Words.{State, register-start}
+use Rattle.model.specs.Dump.{dump-bytes}
+use Rattle.model.specs.Calls.{DumpTo, Call, On, Late, late-deed, deed-fits, done-on, step, refused, reply, output-of, dumped-by, output-after, written-over, Refusal, refusal, first-met, register-at, held-in}
+use Rattle.model.proofs.Parts.{register-part}
+use Rattle.register.specs.Words.{RegisterWords, RegisterReads}
+use Rattle.dumping.specs.Dumps.{Holds, Dumps}
+use Rattle.strikes.specs.declared.Place.{Place}
+use Rattle.strikes.specs.Admitted.{admits, dump-refusal}
+use Rattle.strikes.specs.Calls.{ToldBytes}
+use Rattle.strikes.specs.Places.{PlaceAt}
+use Rattle.strikes.proofs.Through.{seen-part, replied}
+use Rattle.strikes.proofs.Admitting.{late-refusals, refused-early, Admitted}
+use Rattle.strikes.proofs.OnRegister.{enters}
+
+-- ---- 6 and 5 as the code tries them
+module _ (p q : Bool) where
+  six : p ≡ true → first-met (refusal 6 p ∷ refusal 5 q ∷ []) ≡ 6
+  unfolding first-met
+  six e = rw e
+
+  five : p ≡ false → q ≡ true → first-met (refusal 6 p ∷ refusal 5 q ∷ []) ≡ 5
+  unfolding first-met
+  five e f = rw (e, f)
+
+  neither : p ≡ false → q ≡ false → first-met (refusal 6 p ∷ refusal 5 q ∷ []) ≡ 0
+  unfolding first-met
+  neither e f = rw (e, f)
+
+  second-not-met : first-met (refusal 6 p ∷ refusal 5 q ∷ []) ≡ 0 → q ≡ false
+  unfolding first-met
+  second-not-met e =
+      by-test p (λ t. let z : _≡_ {A = ℕ} 6 0 = rw t at e in absurd (omega arith))
+      (λ f. by-test q (λ t. let z : _≡_ {A = ℕ} 5 0 = rw (f, t) at e in absurd (omega arith)) (λ g. g))
+
+module _ (u : Usable) (ws : List ℕ) (room : ℕ) {b : Bool} (pending : RegisterReads u (λ reg. reg .pending) ws b) where
+  pub is-six : b ≡ true → RegisterReads u (dump-refusal room) ws 6
+  unfolding dump-refusal
+  is-six t = record { says = λ reg ok is. sym (six (reg .pending) _ (sym (pending .says reg ok is) ∙ t)) }
+
+  module _ {n : ℕ} (long : RegisterReads u (λ reg. length (dump-bytes reg)) ws n) where
+    pub is-five : b ≡ false → room < n → RegisterReads u (dump-refusal room) ws 5
+    unfolding dump-refusal
+    is-five f h = record {
+      says = λ reg ok is.
+          sym (five (reg .pending) (ltb room (length (dump-bytes reg))) (sym (pending .says reg ok is) ∙ f) (lt-ltb room (length (dump-bytes reg)) (let l = long .says reg ok is in omega (arith, l))));
+    }
+
+    pub is-none : b ≡ false → n ≤ room → RegisterReads u (dump-refusal room) ws 0
+    unfolding dump-refusal
+    is-none f h = record {
+      says = λ reg ok is.
+          sym (neither (reg .pending) (ltb room (length (dump-bytes reg))) (sym (pending .says reg ok is) ∙ f) (le-ltb room (length (dump-bytes reg)) (let l = long .says reg ok is in omega (arith, l))));
+    }
+
+-- where neither is met the output has room
+room-left : (room : ℕ) (reg : Register) → dump-refusal room reg ≡ 0 → length (dump-bytes reg) ≤ room
+unfolding dump-refusal
+room-left room reg e = ltb-false room (length (dump-bytes reg)) (second-not-met (reg .pending) _ e)
+
+-- ---- the call
+module _ (st ws : List ℕ) (r : ℕ) (out : List ℕ) where
+  refusing : (v : ℕ) → refused st ws (On r (DumpTo out)) ≡ v → (v ≡ 0 → ⊥) → ToldBytes st ws (On r (DumpTo out)) (Refused v) out
+  unfolding reply output-after output-of
+  refusing v e h = let b = ne-eqb v 0 h in record { answer = rw (e, b); bytes = rw (e, b) }
+
+  module _ (n : ℕ) (e : n ≡ admits st ws (deed-fits (DumpTo out)) r) where
+    pub dump-refused-early : (n ≡ 0 → ⊥) → ToldBytes st ws (On r (DumpTo out)) (Refused n) out
+    dump-refused-early h = refusing n (refused-early st ws r (DumpTo out) n (sym e) h) h
+
+    module _ (z : n ≡ 0) (p : Place) (at : PlaceAt (settings-of st) r p) where
+      abbrev part : List ℕ
+      part = midOf (p .start) (p .end - p .start) ws
+
+      held : Admitted st ws r (DumpTo out)
+      held = enters st ws r (DumpTo out) n e z
+
+      -- what is read of the register's words is so of the register that is held
+      seen : {R : Type 0} (f : Register → R) (v : R) → RegisterReads (p .u) f part v → v ≡ f (register-at r (held-in (settings-of st) ws))
+      seen f v reads =
+          let s = settings-of st in
+          let t = subst (λ (u : Usable). RegisterReads u f part v) (at .usable) reads in
+          let a = rw (at .usable) at (at .end) in
+          let ends : p .end ≡ p .start + register-form (usable-at s r) .wide = omega arith in
+          seen-part s ws (held .may) (register-at r) (register-part s r (held .there)) (p .start) (p .end) (at .start) ends t
+
+      module _ (v : ℕ) (late : RegisterReads (p .u) (dump-refusal (length out)) part v) where
+        late-is : refused st ws (On r (DumpTo out)) ≡ v
+        unfolding late-refusals late-deed dump-refusal first-met
+        late-is = held .left ∙ sym (seen (dump-refusal (length out)) v late)
+
+        pub dump-refused-late : (v ≡ 0 → ⊥) → ToldBytes st ws (On r (DumpTo out)) (Refused v) out
+        dump-refused-late h = refusing v late-is h
+
+        module _ (none : v ≡ 0) where
+          pub output-holds : Holds (p .u) part out
+          output-holds = record { room = λ reg ok is. room-left (length out) reg (sym (late .says reg ok is) ∙ none) }
+
+          pub dump-told : {after : List ℕ} {k : ℕ} → Dumps (p .u) part out after k → ToldBytes st ws (On r (DumpTo out)) (Dumped k) after
+          unfolding step done-on output-after dumped-by output-of
+          dump-told {after} {k} d =
+              let e = late-is ∙ none in
+              record {
+                answer = ap Dumped (seen (λ reg. length (dump-bytes reg)) k (d .count)) ∙ sym (replied st ws (On r (DumpTo out)) e);
+                bytes = seen (λ reg. written-over (dump-bytes reg) out) after (d .bytes) ∙ rw e;
+              }

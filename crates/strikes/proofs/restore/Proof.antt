@@ -1,0 +1,127 @@
+use mathlib.Core.Path.{refl, sym, _∙_, ap, subst}
+use mathlib.Core.Option.{some}
+use native.Mathlib.Omega.{arith}
+use Rattle.model.specs.Settings.{settings-of}
+use Rattle.model.specs.Dump.{words-of}
+use Rattle.model.specs.Calls.{Restore, deed-fits, late-deed, restored}
+use Rattle.dump.specs.Walk.{dump-at}
+use Rattle.restoring.specs.Rules.{restored-whole}
+use Rattle.strikes.specs.Calls.{restore-answer}
+use Rattle.strikes.proofs.OnRegister.{told-refused, enters}
+use Rattle.strikes.proofs.OnWhole.{whole-within, whole-lies, told-whole}
+use Rattle.strikes.proofs.Placed.{words-in-bounds}
+use Rattle.strikes.proofs.OnRestore.{whole-dump, within-bytes, not-cut, restore-says, restore-leaves, told-cut}
+use borrow.Author.Needs.{needs}
+use Rattle.strikes.proofs.restore.Statement.{statement}
+use Rattle.strikes.proofs.restore.Tie as tie
+use Rattle.strikes.proofs.restore.Reads as reads
+use Rattle.strikes.proofs.restore.Lts as lts
+use Rattle.dump.proofs.read_lengths.Reads as read-lengths-reads
+use Rattle.numbers.proofs.bounds.settings_of.Reads as settings-of-reads
+use Rattle.numbers.proofs.starts.needed.Reads as needed-reads
+use Rattle.restoring.proofs.restore.Reads as restore-reads
+use Rattle.strikes.proofs.admitted.Reads as admitted-reads
+use Rattle.strikes.proofs.told_restored.Reads as told-restored-reads
+
+-- src/lib.rt:465:9
+admitted-requires : tie.Need-admitted-requires
+admitted-requires c κs = search needs
+
+-- src/lib.rt:467:9
+same-length : tie.Need-same-length
+same-length c = search needs
+
+-- src/lib.rt:467:9
+returns : tie.Need-returns
+unfolding deed-fits late-deed
+returns c = told-refused (c .before .before .before .before .before .before .args .settings .now) (c .before .before .before .before .before .before .args .words .now) (c .before .before .before .before .before .before .args .register) (Restore (c .before .before .before .before .before .before .args .bytes .now)) _ (c .before .admitted .ensures) (c .if1 .taken)
+
+-- src/lib.rt:469:31
+read-lengths-requires : tie.Need-read-lengths-requires
+read-lengths-requires c κs = search needs
+
+-- src/lib.rt:469:23
+enum-known-long : tie.Need-enum-known-long
+enum-known-long c = search needs
+
+-- src/lib.rt:470:9
+enum-told : tie.Need-enum-told
+enum-told c = search needs
+
+-- src/lib.rt:470:9
+same-length-2 : tie.Need-same-length-2
+same-length-2 c = search needs
+
+-- src/lib.rt:470:9
+returns-2 : tie.Need-returns-2
+unfolding deed-fits late-deed
+returns-2 c = told-cut (c .before .before .before .before .before .before .before .before .before .args .settings .now) (c .before .before .before .before .before .before .before .before .before .args .words .now) (c .before .before .before .before .before .before .before .before .before .args .bytes .now) (c .before .before .before .before .before .before .before .before .before .args .register) (Restore (c .before .before .before .before .before .before .before .before .before .args .bytes .now)) _ (c .before .before .before .before .admitted .ensures) (c .before .before .before .if1 .left) (λ reg. refl) (sym (c .enum-told .given .1) ∙ c .before .before .read-lengths .ensures)
+
+-- src/lib.rt:472:9
+settings-of-requires : tie.Need-settings-of-requires
+unfolding deed-fits late-deed
+settings-of-requires c κs = words-in-bounds (c .before .before .before .before .before .before .before .before .before .before .args .settings .now) (enters (c .before .before .before .before .before .before .before .before .before .before .args .settings .now) (c .before .before .before .before .before .before .before .before .before .before .args .words .now) (c .before .before .before .before .before .before .before .before .before .before .args .register) (Restore (c .before .before .before .before .before .before .before .before .before .before .args .bytes .now)) _ (c .before .before .before .before .before .admitted .ensures) (c .before .before .before .before .if1 .left) .fit) .0
+
+-- src/lib.rt:473:9
+needed-requires : tie.Need-needed-requires
+unfolding deed-fits late-deed
+needed-requires c κs = rw (c .settings-of .ensures) (words-in-bounds (c .before .before .before .before .before .before .before .before .before .before .before .args .settings .now) (enters (c .before .before .before .before .before .before .before .before .before .before .before .args .settings .now) (c .before .before .before .before .before .before .before .before .before .before .before .args .words .now) (c .before .before .before .before .before .before .before .before .before .before .before .args .register) (Restore (c .before .before .before .before .before .before .before .before .before .before .before .args .bytes .now)) _ (c .before .before .before .before .before .before .admitted .ensures) (c .before .before .before .before .before .if1 .left) .fit) .1)
+
+-- src/lib.rt:475:36
+sub-restore : tie.Need-sub-restore
+sub-restore c = search needs
+
+-- src/lib.rt:475:36
+part-restore-start : tie.Need-part-restore-start
+part-restore-start c = search needs
+
+-- src/lib.rt:475:36
+part-restore-end : tie.Need-part-restore-end
+unfolding deed-fits late-deed
+part-restore-end c = search (whole-within (c .before .before .before .before .before .before .before .before .before .before .before .before .args .settings .now) (c .before .before .before .before .before .before .before .before .before .before .before .before .args .words .now) (c .before .before .before .before .before .before .before .before .before .before .before .before .args .register) (Restore (c .before .before .before .before .before .before .before .before .before .before .before .before .args .bytes .now)) _ (c .before .before .before .before .before .before .before .admitted .ensures) (c .before .before .before .before .before .before .if1 .left) (not-cut (c .before .before .before .before .before .before .before .before .before .before .before .before .args .bytes .now) _ (sym (c .before .before .before .long .given .1) ∙ c .before .before .before .before .before .read-lengths .ensures) (Restore (c .before .before .before .before .before .before .before .before .before .before .before .before .args .bytes .now)) (λ reg. refl) (c .before .before .before .before .before .before .before .before .before .before .before .before .args .register)) _ (rw (c .before .settings-of .ensures) at (c .needed .ensures)), needs)
+
+-- src/lib.rt:475:9
+restore-requires : tie.Need-restore-requires
+unfolding deed-fits late-deed
+restore-requires c κs = (rw (c .before .before .settings-of .ensures) (whole-lies (c .before .before .before .before .before .before .before .before .before .before .before .before .before .args .settings .now) (c .before .before .before .before .before .before .before .before .before .before .before .before .before .args .words .now) (c .before .before .before .before .before .before .before .before .before .before .before .before .before .args .register) (Restore (c .before .before .before .before .before .before .before .before .before .before .before .before .before .args .bytes .now)) _ (c .before .before .before .before .before .before .before .before .admitted .ensures) (c .before .before .before .before .before .before .before .if1 .left) (not-cut (c .before .before .before .before .before .before .before .before .before .before .before .before .before .args .bytes .now) _ (sym (c .before .before .before .before .long .given .1) ∙ c .before .before .before .before .before .before .read-lengths .ensures) (Restore (c .before .before .before .before .before .before .before .before .before .before .before .before .before .args .bytes .now)) (λ reg. refl) (c .before .before .before .before .before .before .before .before .before .before .before .before .before .args .register)) _ (rw (c .before .before .settings-of .ensures) at (c .before .needed .ensures))), whole-dump (c .before .before .before .before .before .before .before .before .before .before .before .before .before .args .bytes .now) _ (sym (c .before .before .before .before .long .given .1) ∙ c .before .before .before .before .before .before .read-lengths .ensures))
+
+-- src/lib.rt:476:26
+mul-told-restored : tie.Need-mul-told-restored
+unfolding deed-fits late-deed
+mul-told-restored c = search (within-bytes (c .before .before .before .before .before .before .before .before .before .before .before .before .before .before .before .before .args .bytes .now) _ (sym (c .before .before .before .before .before .before .before .long .given .1) ∙ c .before .before .before .before .before .before .before .before .before .read-lengths .ensures), c .before .before .before .before .before .before .before .before .before .before .before .before .before .before .before .before .good, needs)
+
+-- src/lib.rt:476:5
+told-restored-requires : tie.Need-told-restored-requires
+told-restored-requires c κs = search needs
+
+-- src/lib.rt:462:1
+same-length-3 : tie.Need-same-length-3
+same-length-3 c = search needs
+
+-- src/lib.rt:462:1
+returns-3 : tie.Need-returns-3
+unfolding deed-fits late-deed
+returns-3 c = rw (c .told-restored .ensures) (told-whole (c .before .before .before .before .before .before .before .before .before .before .before .before .before .before .before .before .before .args .settings .now) (c .before .before .before .before .before .before .before .before .before .before .before .before .before .before .before .before .before .args .words .now) (c .before .before .before .before .before .before .before .before .before .before .before .before .before .before .before .before .before .args .register) (Restore (c .before .before .before .before .before .before .before .before .before .before .before .before .before .before .before .before .before .args .bytes .now)) _ (c .before .before .before .before .before .before .before .before .before .before .before .before .admitted .ensures) (c .before .before .before .before .before .before .before .before .before .before .before .if1 .left) (not-cut (c .before .before .before .before .before .before .before .before .before .before .before .before .before .before .before .before .before .args .bytes .now) _ (sym (c .before .before .before .before .before .before .before .before .long .given .1) ∙ c .before .before .before .before .before .before .before .before .before .before .read-lengths .ensures) (Restore (c .before .before .before .before .before .before .before .before .before .before .before .before .before .before .before .before .before .args .bytes .now)) (λ reg. refl) (c .before .before .before .before .before .before .before .before .before .before .before .before .before .before .before .before .before .args .register)) _ (rw (c .before .before .before .before .before .before .settings-of .ensures) at (c .before .before .before .before .before .needed .ensures)) (restore-answer _) (λ t. restored (settings-of (c .before .before .before .before .before .before .before .before .before .before .before .before .before .before .before .before .before .args .settings .now)) (c .before .before .before .before .before .before .before .before .before .before .before .before .before .before .before .before .before .args .register) t (some (dump-at (words-of (c .before .before .before .before .before .before .before .before .before .before .before .before .before .before .before .before .before .args .bytes .now)))) .state) (restored-whole (settings-of (c .before .before .before .before .before .before .before .before .before .before .before .before .before .before .before .before .before .args .settings .now)) (c .before .before .before .before .before .before .before .before .before .before .before .before .before .before .before .before .before .args .register) (dump-at (words-of (c .before .before .before .before .before .before .before .before .before .before .before .before .before .before .before .before .before .args .bytes .now)))) (λ t. restore-says (c .before .before .before .before .before .before .before .before .before .before .before .before .before .before .before .before .before .args .bytes .now) _ (sym (c .before .before .before .before .before .before .before .before .long .given .1) ∙ c .before .before .before .before .before .before .before .before .before .before .read-lengths .ensures) (settings-of (c .before .before .before .before .before .before .before .before .before .before .before .before .before .before .before .before .before .args .settings .now)) (c .before .before .before .before .before .before .before .before .before .before .before .before .before .before .before .before .before .args .register) t) (λ t. restore-leaves (c .before .before .before .before .before .before .before .before .before .before .before .before .before .before .before .before .before .args .bytes .now) _ (sym (c .before .before .before .before .before .before .before .before .long .given .1) ∙ c .before .before .before .before .before .before .before .before .before .before .read-lengths .ensures) (settings-of (c .before .before .before .before .before .before .before .before .before .before .before .before .before .before .before .before .before .args .settings .now)) (c .before .before .before .before .before .before .before .before .before .before .before .before .before .before .before .before .before .args .register) t) _ _ (rw (c .before .before .before .before .before .before .settings-of .ensures) at (c .before .before .before .restore .ensures .1)))
+
+pub restore-spec : {M : Type 1} → statement M
+restore-spec =
+    tie.close
+    (tie.spec
+    admitted-requires
+    same-length
+    returns
+    read-lengths-requires
+    enum-known-long
+    enum-told
+    same-length-2
+    returns-2
+    settings-of-requires
+    needed-requires
+    sub-restore
+    part-restore-start
+    part-restore-end
+    restore-requires
+    mul-told-restored
+    told-restored-requires
+    same-length-3
+    returns-3)
