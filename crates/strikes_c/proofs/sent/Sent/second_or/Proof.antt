@@ -1,0 +1,17 @@
+use Rattle.strikes_c.proofs.Sending.{none-there, one-there}
+use mathlib.Core.List.{[], _∷_}
+use Rattle.strikes_c.proofs.sent.Sent.second_or.Statement.{statement}
+use Rattle.strikes_c.proofs.sent.Sent.second_or.Tie as tie
+use Rattle.strikes_c.proofs.sent.Sent.second_or.Reads as reads
+use Rattle.strikes_c.proofs.sent.Sent.second_or.Lts as lts
+
+-- src/sent.rt:86:13
+returns : tie.Need-returns
+returns c = none-there _ 1 ((c .before .before .args .self) .first ∷ (c .before .before .args .self) .second ∷ (c .before .before .args .self) .third ∷ (c .before .before .args .self) .fourth ∷ []) _ (c .if1 .taken)
+
+-- src/sent.rt:82:5
+returns-2 : tie.Need-returns-2
+returns-2 c = one-there _ 1 ((c .before .before .args .self) .first ∷ (c .before .before .args .self) .second ∷ (c .before .before .args .self) .third ∷ (c .before .before .args .self) .fourth ∷ []) (c .before .before .args .old) (c .if1 .left)
+
+pub second-or-spec : {M : Type 1} → statement M
+second-or-spec = tie.close (tie.spec returns returns-2)

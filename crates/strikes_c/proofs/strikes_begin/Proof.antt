@@ -1,0 +1,36 @@
+use Prim.Native.Nat.{ℕ}
+use mathlib.Core.List.{[], _∷_}
+use mathlib.Core.Path.{ap}
+use Rattle.strikes_c.proofs.Sending.{told-out}
+use borrow.Author.Needs.{needs}
+use Rattle.strikes_c.proofs.strikes_begin.Statement.{statement}
+use Rattle.strikes_c.proofs.strikes_begin.Tie as tie
+use Rattle.strikes_c.proofs.strikes_begin.Reads as reads
+use Rattle.strikes_c.proofs.strikes_begin.Lts as lts
+use Rattle.strikes.proofs.begin.Reads as begin-reads
+use Rattle.strikes_c.proofs.sent.Sent.first_or.Reads as first-or-reads
+use Rattle.strikes_c.proofs.sent.send.Reads as send-reads
+
+-- src/lib.rt:136:21
+begin-requires : tie.Need-begin-requires
+begin-requires c κs = search needs
+
+-- src/lib.rt:136:9
+send-requires : tie.Need-send-requires
+send-requires c κs = search needs
+
+-- src/lib.rt:137:14
+first-or-requires : tie.Need-first-or-requires
+first-or-requires c κs = search needs
+
+-- src/lib.rt:132:1
+same-length : tie.Need-same-length
+same-length c = search needs
+
+-- src/lib.rt:132:1
+returns : tie.Need-returns
+returns c = told-out _ _ _ _ _ (c .before .before .send .ensures) _ _ _ (c .before .before .before .before .before .begin .ensures) (ap (λ (v : ℕ). v ∷ []) (c .first-or .ensures))
+
+pub strikes-begin-spec : {M : Type 1} → statement M
+strikes-begin-spec =
+    tie.close (tie.spec begin-requires send-requires first-or-requires same-length returns)

@@ -1,0 +1,36 @@
+use Prim.Native.Nat.{ℕ}
+use mathlib.Core.List.{[], _∷_}
+use mathlib.Core.Path.{ap}
+use Rattle.strikes_c.proofs.Sending.{written-out}
+use borrow.Author.Needs.{needs}
+use Rattle.strikes_c.proofs.strikes_dump.Statement.{statement}
+use Rattle.strikes_c.proofs.strikes_dump.Tie as tie
+use Rattle.strikes_c.proofs.strikes_dump.Reads as reads
+use Rattle.strikes_c.proofs.strikes_dump.Lts as lts
+use Rattle.strikes.proofs.dump.Reads as dump-reads
+use Rattle.strikes_c.proofs.sent.Sent.first_or.Reads as first-or-reads
+use Rattle.strikes_c.proofs.sent.send.Reads as send-reads
+
+-- src/lib.rt:244:21
+dump-requires : tie.Need-dump-requires
+dump-requires c κs = search needs
+
+-- src/lib.rt:244:9
+send-requires : tie.Need-send-requires
+send-requires c κs = search needs
+
+-- src/lib.rt:245:16
+first-or-requires : tie.Need-first-or-requires
+first-or-requires c κs = search needs
+
+-- src/lib.rt:240:1
+same-length : tie.Need-same-length
+same-length c = search needs
+
+-- src/lib.rt:240:1
+returns : tie.Need-returns
+returns c = written-out _ _ _ _ _ (c .before .before .send .ensures) _ _ _ (c .before .before .before .before .before .dump .ensures) (ap (λ (v : ℕ). v ∷ []) (c .first-or .ensures))
+
+pub strikes-dump-spec : {M : Type 1} → statement M
+strikes-dump-spec =
+    tie.close (tie.spec dump-requires send-requires first-or-requires same-length returns)

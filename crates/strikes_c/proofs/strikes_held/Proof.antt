@@ -1,0 +1,31 @@
+use Prim.Native.Nat.{ℕ}
+use mathlib.Core.List.{[], _∷_}
+use mathlib.Core.Path.{ap}
+use Rattle.strikes_c.proofs.Sending.{read-out}
+use borrow.Author.Needs.{needs}
+use Rattle.strikes_c.proofs.strikes_held.Statement.{statement}
+use Rattle.strikes_c.proofs.strikes_held.Tie as tie
+use Rattle.strikes_c.proofs.strikes_held.Reads as reads
+use Rattle.strikes_c.proofs.strikes_held.Lts as lts
+use Rattle.strikes.proofs.held.Reads as held-reads
+use Rattle.strikes_c.proofs.sent.Sent.first_or.Reads as first-or-reads
+use Rattle.strikes_c.proofs.sent.send.Reads as send-reads
+
+-- src/lib.rt:205:21
+held-requires : tie.Need-held-requires
+held-requires c κs = search needs
+
+-- src/lib.rt:205:9
+send-requires : tie.Need-send-requires
+send-requires c κs = search needs
+
+-- src/lib.rt:206:16
+first-or-requires : tie.Need-first-or-requires
+first-or-requires c κs = search needs
+
+-- src/lib.rt:201:1
+returns : tie.Need-returns
+returns c = read-out _ _ _ _ _ (c .before .before .send .ensures) _ _ (c .before .before .before .held .ensures) (ap (λ (v : ℕ). v ∷ []) (c .first-or .ensures))
+
+pub strikes-held-spec : {M : Type 1} → statement M
+strikes-held-spec = tie.close (tie.spec held-requires send-requires first-or-requires returns)

@@ -1,0 +1,36 @@
+use Prim.Native.Nat.{ℕ}
+use mathlib.Core.List.{[], _∷_}
+use mathlib.Core.Path.{ap}
+use Rattle.strikes_c.proofs.Sending.{told-out}
+use borrow.Author.Needs.{needs}
+use Rattle.strikes_c.proofs.strikes_judge_batch.Statement.{statement}
+use Rattle.strikes_c.proofs.strikes_judge_batch.Tie as tie
+use Rattle.strikes_c.proofs.strikes_judge_batch.Reads as reads
+use Rattle.strikes_c.proofs.strikes_judge_batch.Lts as lts
+use Rattle.strikes.proofs.judge_batch.Reads as judge-batch-reads
+use Rattle.strikes_c.proofs.sent.Sent.first_or.Reads as first-or-reads
+use Rattle.strikes_c.proofs.sent.send.Reads as send-reads
+
+-- src/lib.rt:74:21
+judge-batch-requires : tie.Need-judge-batch-requires
+judge-batch-requires c κs = search needs
+
+-- src/lib.rt:74:9
+send-requires : tie.Need-send-requires
+send-requires c κs = search needs
+
+-- src/lib.rt:75:16
+first-or-requires : tie.Need-first-or-requires
+first-or-requires c κs = search needs
+
+-- src/lib.rt:59:1
+same-length : tie.Need-same-length
+same-length c = search needs
+
+-- src/lib.rt:59:1
+returns : tie.Need-returns
+returns c = told-out _ _ _ _ _ (c .before .before .send .ensures) _ _ _ (c .before .before .before .before .before .judge-batch .ensures) (ap (λ (v : ℕ). v ∷ []) (c .first-or .ensures))
+
+pub strikes-judge-batch-spec : {M : Type 1} → statement M
+strikes-judge-batch-spec =
+    tie.close (tie.spec judge-batch-requires send-requires first-or-requires same-length returns)

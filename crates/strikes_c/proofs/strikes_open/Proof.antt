@@ -1,0 +1,28 @@
+use mathlib.Core.Path.{refl}
+use Rattle.strikes_c.proofs.Sending.{told-out}
+use borrow.Author.Needs.{needs}
+use Rattle.strikes_c.proofs.strikes_open.Statement.{statement}
+use Rattle.strikes_c.proofs.strikes_open.Tie as tie
+use Rattle.strikes_c.proofs.strikes_open.Reads as reads
+use Rattle.strikes_c.proofs.strikes_open.Lts as lts
+use Rattle.strikes.proofs.open.Reads as open-reads
+use Rattle.strikes_c.proofs.sent.send.Reads as send-reads
+
+-- src/lib.rt:33:21
+open-requires : tie.Need-open-requires
+open-requires c κs = search needs
+
+-- src/lib.rt:33:9
+send-requires : tie.Need-send-requires
+send-requires c κs = search needs
+
+-- src/lib.rt:29:1
+same-length : tie.Need-same-length
+same-length c = search needs
+
+-- src/lib.rt:29:1
+returns : tie.Need-returns
+returns c = told-out _ _ _ _ _ (c .send .ensures) _ _ _ (c .before .before .before .«open» .ensures) refl
+
+pub strikes-open-spec : {M : Type 1} → statement M
+strikes-open-spec = tie.close (tie.spec open-requires send-requires same-length returns)

@@ -1,0 +1,32 @@
+use Prim.Native.Nat.{ℕ}
+use mathlib.Core.List.{[], _∷_}
+use mathlib.Core.Path.{ap}
+use Rattle.strikes_c.proofs.Sending.{read-out}
+use borrow.Author.Needs.{needs}
+use Rattle.strikes_c.proofs.strikes_pending.Statement.{statement}
+use Rattle.strikes_c.proofs.strikes_pending.Tie as tie
+use Rattle.strikes_c.proofs.strikes_pending.Reads as reads
+use Rattle.strikes_c.proofs.strikes_pending.Lts as lts
+use Rattle.strikes.proofs.pending.Reads as pending-reads
+use Rattle.strikes_c.proofs.sent.Sent.first_or.Reads as first-or-reads
+use Rattle.strikes_c.proofs.sent.send.Reads as send-reads
+
+-- src/lib.rt:184:21
+pending-requires : tie.Need-pending-requires
+pending-requires c κs = search needs
+
+-- src/lib.rt:184:9
+send-requires : tie.Need-send-requires
+send-requires c κs = search needs
+
+-- src/lib.rt:185:16
+first-or-requires : tie.Need-first-or-requires
+first-or-requires c κs = search needs
+
+-- src/lib.rt:180:1
+returns : tie.Need-returns
+returns c = read-out _ _ _ _ _ (c .before .before .send .ensures) _ _ (c .before .before .before .pending .ensures) (ap (λ (v : ℕ). v ∷ []) (c .first-or .ensures))
+
+pub strikes-pending-spec : {M : Type 1} → statement M
+strikes-pending-spec =
+    tie.close (tie.spec pending-requires send-requires first-or-requires returns)

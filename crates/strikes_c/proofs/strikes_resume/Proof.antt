@@ -1,0 +1,45 @@
+use Rattle.strikes_c.proofs.Sending.{told-out}
+use borrow.Author.Needs.{needs}
+use Rattle.strikes_c.proofs.strikes_resume.Statement.{statement}
+use Rattle.strikes_c.proofs.strikes_resume.Tie as tie
+use Rattle.strikes_c.proofs.strikes_resume.Reads as reads
+use Rattle.strikes_c.proofs.strikes_resume.Lts as lts
+use Rattle.strikes.proofs.resume.Reads as resume-reads
+use Rattle.strikes_c.proofs.sent.Sent.first_or.Reads as first-or-reads
+use Rattle.strikes_c.proofs.sent.Sent.second_or.Reads as second-or-reads
+use Rattle.strikes_c.proofs.sent.send.Reads as send-reads
+
+-- src/lib.rt:281:21
+resume-requires : tie.Need-resume-requires
+resume-requires c κs = search needs
+
+-- src/lib.rt:281:9
+send-requires : tie.Need-send-requires
+send-requires c κs = search needs
+
+-- src/lib.rt:282:14
+first-or-requires : tie.Need-first-or-requires
+first-or-requires c κs = search needs
+
+-- src/lib.rt:283:13
+second-or-requires : tie.Need-second-or-requires
+second-or-requires c κs = search needs
+
+-- src/lib.rt:268:1
+same-length : tie.Need-same-length
+same-length c = search needs
+
+-- src/lib.rt:268:1
+returns : tie.Need-returns
+returns c = told-out _ _ _ _ _ (c .before .before .before .before .send .ensures) _ _ _ (c .before .before .before .before .before .before .before .resume .ensures) (rw (c .before .before .first-or .ensures, c .second-or .ensures))
+
+pub strikes-resume-spec : {M : Type 1} → statement M
+strikes-resume-spec =
+    tie.close
+    (tie.spec
+    resume-requires
+    send-requires
+    first-or-requires
+    second-or-requires
+    same-length
+    returns)

@@ -1,0 +1,34 @@
+use Rattle.strikes_c.proofs.Sending.{read-out}
+use borrow.Author.Needs.{needs}
+use Rattle.strikes_c.proofs.strikes_swept.Statement.{statement}
+use Rattle.strikes_c.proofs.strikes_swept.Tie as tie
+use Rattle.strikes_c.proofs.strikes_swept.Reads as reads
+use Rattle.strikes_c.proofs.strikes_swept.Lts as lts
+use Rattle.strikes.proofs.swept.Reads as swept-reads
+use Rattle.strikes_c.proofs.sent.Sent.first_or.Reads as first-or-reads
+use Rattle.strikes_c.proofs.sent.Sent.second_or.Reads as second-or-reads
+use Rattle.strikes_c.proofs.sent.send.Reads as send-reads
+
+-- src/lib.rt:194:21
+swept-requires : tie.Need-swept-requires
+swept-requires c κs = search needs
+
+-- src/lib.rt:194:9
+send-requires : tie.Need-send-requires
+send-requires c κs = search needs
+
+-- src/lib.rt:195:15
+first-or-requires : tie.Need-first-or-requires
+first-or-requires c κs = search needs
+
+-- src/lib.rt:196:18
+second-or-requires : tie.Need-second-or-requires
+second-or-requires c κs = search needs
+
+-- src/lib.rt:190:1
+returns : tie.Need-returns
+returns c = read-out _ _ _ _ _ (c .before .before .before .before .send .ensures) _ _ (c .before .before .before .before .before .swept .ensures) (rw (c .before .before .first-or .ensures, c .second-or .ensures))
+
+pub strikes-swept-spec : {M : Type 1} → statement M
+strikes-swept-spec =
+    tie.close (tie.spec swept-requires send-requires first-or-requires second-or-requires returns)

@@ -1,0 +1,36 @@
+use Prim.Native.Nat.{ℕ}
+use mathlib.Core.List.{[], _∷_}
+use mathlib.Core.Path.{ap}
+use Rattle.strikes_c.proofs.Sending.{told-out}
+use borrow.Author.Needs.{needs}
+use Rattle.strikes_c.proofs.strikes_take.Statement.{statement}
+use Rattle.strikes_c.proofs.strikes_take.Tie as tie
+use Rattle.strikes_c.proofs.strikes_take.Reads as reads
+use Rattle.strikes_c.proofs.strikes_take.Lts as lts
+use Rattle.strikes.proofs.take.Reads as take-reads
+use Rattle.strikes_c.proofs.sent.Sent.first_or.Reads as first-or-reads
+use Rattle.strikes_c.proofs.sent.send.Reads as send-reads
+
+-- src/lib.rt:95:21
+take-requires : tie.Need-take-requires
+take-requires c κs = search needs
+
+-- src/lib.rt:95:9
+send-requires : tie.Need-send-requires
+send-requires c κs = search needs
+
+-- src/lib.rt:96:16
+first-or-requires : tie.Need-first-or-requires
+first-or-requires c κs = search needs
+
+-- src/lib.rt:80:1
+same-length : tie.Need-same-length
+same-length c = search needs
+
+-- src/lib.rt:80:1
+returns : tie.Need-returns
+returns c = told-out _ _ _ _ _ (c .before .before .send .ensures) _ _ _ (c .before .before .before .before .before .take .ensures) (ap (λ (v : ℕ). v ∷ []) (c .first-or .ensures))
+
+pub strikes-take-spec : {M : Type 1} → statement M
+strikes-take-spec =
+    tie.close (tie.spec take-requires send-requires first-or-requires same-length returns)

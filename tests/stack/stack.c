@@ -1,0 +1,225 @@
+/*
+ * The stack that each entry point of include/strikes.h takes: the deepest that any of many calls of it reached.
+ *
+ * A call runs on a stack of its own that was filled with a pattern. How far down the pattern is gone afterwards, less what an empty
+ * function takes, is what the call took: its frames, those of all that it calls, and the arguments that go by the stack.
+ *
+ * Calls come at random, with a fixed seed, under small, middling and the largest settings, so that each refusal and each verdict comes,
+ * Whole and Partly too; where one does not come, the program ends with 1.
+ */
+#define _XOPEN_SOURCE 700
+#include "strikes.h"
+#include <stdio.h>
+#include <stdlib.h>
+#include <string.h>
+#include <ucontext.h>
+
+enum { STACK = 256 * 1024, PATTERN = 0xa5 };
+
+static unsigned char stack[STACK] __attribute__((aligned(64)));
+static ucontext_t here, there;
+
+static size_t depth(void (*run)(void)) {
+    memset(stack, PATTERN, STACK);
+    getcontext(&there);
+    there.uc_stack.ss_sp = stack;
+    there.uc_stack.ss_size = STACK;
+    there.uc_link = &here;
+    makecontext(&there, run, 0);
+    swapcontext(&here, &there);
+    size_t at = 0;
+    while (at < STACK && stack[at] == PATTERN)
+        at++;
+    return STACK - at;
+}
+
+/* What the next call is handed. */
+static uint64_t settings[STRIKES_SETTINGS], limits[STRIKES_LIMITS], starts[STRIKES_STARTS];
+static size_t settings_length, words_length, bytes_length, output_length;
+static uint64_t *words;
+static uint8_t *bytes, *output;
+static uint64_t reg, fp, stamp, reading, flag, kind, number, class_number;
+static uint64_t a, b, c, d, status;
+
+static void nothing(void) {}
+
+#define LENT settings, settings_length, words, words_length
+#define TICKET reg, fp, stamp, reading, flag, kind, number
+static void run_words_needed(void) { status = strikes_words_needed(settings, settings_length, &a); }
+static void run_open(void) {
+    status = strikes_open(settings, settings_length, limits, STRIKES_LIMITS, starts, STRIKES_STARTS, words, words_length);
+}
+static void run_judge(void) { status = strikes_judge(LENT, TICKET, &a); }
+static void run_judge_batch(void) { status = strikes_judge_batch(LENT, TICKET, &a); }
+static void run_take(void) { status = strikes_take(LENT, TICKET, &a); }
+static void run_take_batch(void) { status = strikes_take_batch(LENT, TICKET, &a); }
+static void run_contains_hash(void) { status = strikes_contains_hash(LENT, reg, fp, &a); }
+static void run_begin(void) { status = strikes_begin(LENT, reg, number, &a); }
+static void run_sweep(void) { status = strikes_sweep(LENT, reg, reading); }
+static void run_expire(void) { status = strikes_expire(LENT, reading); }
+static void run_set_limits(void) { status = strikes_set_limits(LENT, limits, STRIKES_LIMITS); }
+static void run_close(void) { status = strikes_close(LENT); }
+static void run_held(void) { status = strikes_held(LENT, kind, number, &a); }
+static void run_class(void) { status = strikes_class(LENT, class_number, &a, &b, &c, &d); }
+static void run_dump(void) { status = strikes_dump(LENT, reg, output, output_length, &a); }
+static void run_restore(void) { status = strikes_restore(LENT, reg, bytes, bytes_length, &a, &b); }
+static void run_resume(void) { status = strikes_resume(LENT, reg, bytes, bytes_length, flag, number, &a, &b); }
+static void run_floor(void) { status = strikes_floor(LENT, reg, &a, &b); }
+static void run_pending(void) { status = strikes_pending(LENT, reg, &a); }
+static void run_swept(void) { status = strikes_swept(LENT, reg, &a, &b); }
+
+enum {
+    WORDS_NEEDED, OPEN, JUDGE, JUDGE_BATCH, TAKE, TAKE_BATCH, CONTAINS_HASH, BEGIN, SWEEP, EXPIRE,
+    SET_LIMITS, CLOSE, HELD, CLASS, DUMP, RESTORE, RESUME, FLOOR, IS_PENDING, SWEPT, ENTRIES
+};
+
+static struct entry {
+    const char *name;
+    void (*run)(void);
+    size_t deepest;
+    unsigned long through, refused;
+} entry[ENTRIES] = {
+    {"strikes_words_needed", run_words_needed, 0, 0, 0},
+    {"strikes_open", run_open, 0, 0, 0},
+    {"strikes_judge", run_judge, 0, 0, 0},
+    {"strikes_judge_batch", run_judge_batch, 0, 0, 0},
+    {"strikes_take", run_take, 0, 0, 0},
+    {"strikes_take_batch", run_take_batch, 0, 0, 0},
+    {"strikes_contains_hash", run_contains_hash, 0, 0, 0},
+    {"strikes_begin", run_begin, 0, 0, 0},
+    {"strikes_sweep", run_sweep, 0, 0, 0},
+    {"strikes_expire", run_expire, 0, 0, 0},
+    {"strikes_set_limits", run_set_limits, 0, 0, 0},
+    {"strikes_close", run_close, 0, 0, 0},
+    {"strikes_held", run_held, 0, 0, 0},
+    {"strikes_class", run_class, 0, 0, 0},
+    {"strikes_dump", run_dump, 0, 0, 0},
+    {"strikes_restore", run_restore, 0, 0, 0},
+    {"strikes_resume", run_resume, 0, 0, 0},
+    {"strikes_floor", run_floor, 0, 0, 0},
+    {"strikes_pending", run_pending, 0, 0, 0},
+    {"strikes_swept", run_swept, 0, 0, 0},
+};
+
+static size_t empty;
+static unsigned long refusals[8], verdicts[6], restored[2];
+
+static void measure(int which) {
+    struct entry *e = &entry[which];
+    size_t took = depth(e->run) - empty;
+    if (took > e->deepest)
+        e->deepest = took;
+    if (status != STRIKES_OK) {
+        e->refused++;
+        refusals[status]++;
+        return;
+    }
+    e->through++;
+    if (which >= JUDGE && which <= TAKE_BATCH)
+        verdicts[a]++;
+    if (which == RESTORE || which == RESUME)
+        restored[a]++;
+}
+
+static uint64_t seed = 1;
+static uint64_t below(uint64_t n) {
+    seed = seed * 6364136223846793005u + 1442695040888963407u;
+    return (seed >> 33) % n;
+}
+
+static void limits_at(uint64_t most) {
+    for (int i = 0; i < STRIKES_LIMITS; i++)
+        limits[i] = most;
+}
+
+/* Opens words with these settings, and makes calls at random. */
+static void session(uint64_t registers, uint64_t places, uint64_t pairs, uint64_t behind, uint64_t ahead, uint64_t bucket,
+                    uint64_t slots, int turns) {
+    memset(settings, 0, sizeof settings);
+    settings[STRIKES_SET_REGISTERS] = registers;
+    settings[STRIKES_SET_PLACES] = places;
+    settings[STRIKES_SET_PAIRS] = pairs;
+    settings[STRIKES_SET_FEEDER_UNITS] = 1;
+    settings[STRIKES_SET_PEER_UNITS] = 2;
+    for (uint64_t r = 0; r < registers; r++) {
+        settings[STRIKES_SET_ORIGIN_BEHIND(r)] = behind / 2;
+        settings[STRIKES_SET_ORIGIN_AHEAD(r)] = ahead;
+        settings[STRIKES_SET_COPY_BEHIND(r)] = behind;
+        settings[STRIKES_SET_COPY_AHEAD(r)] = ahead;
+        settings[STRIKES_SET_BUCKET(r)] = bucket;
+        settings[STRIKES_SET_SLOTS(r)] = slots;
+        starts[STRIKES_START_CODE(r)] = r % 3;
+        starts[STRIKES_START_FLOOR(r)] = 5;
+    }
+    settings_length = STRIKES_SETTINGS;
+    measure(WORDS_NEEDED);
+    size_t needed = a;
+    words = malloc(8 * needed);
+    output = malloc(8 * needed);
+    bytes = malloc(8 * needed);
+    if (!words || !output || !bytes)
+        exit(2);
+    words_length = needed;
+    output_length = bytes_length = 8 * needed;
+    memset(bytes, 0, bytes_length);
+    limits_at(200);
+    measure(OPEN);
+    reading = behind;
+    for (int turn = 0; turn < turns; turn++) {
+        if (below(8) == 0)
+            reading += below(4 * bucket);
+        if (below(200) == 0)
+            reading -= below(reading / 2 + 1);
+        reg = below(40) ? below(registers) : registers;
+        fp = below(4 * slots);
+        stamp = reading - below(behind + 1) + below(ahead + bucket);
+        flag = below(20) ? 1 : below(3);
+        kind = below(40) ? below(4) : 4;
+        number = below(3);
+        class_number = below(4);
+        settings_length = below(60) ? STRIKES_SETTINGS : 28;
+        words_length = below(60) ? needed : needed - 1;
+        output_length = below(10) ? 8 * needed : below(64);
+        int which = below(3) ? TAKE + (int)below(2) : (int)below(ENTRIES);
+        if (which == OPEN && below(10))
+            which = RESTORE;
+        if (which == CLOSE && below(10))
+            which = DUMP;
+        if (which == SET_LIMITS)
+            limits_at(below(2000));
+        size_t spoilt = below(50) ? needed : below(needed);
+        uint64_t kept = spoilt < needed ? words[spoilt] : 0;
+        if (spoilt < needed)
+            words[spoilt] ^= 1;
+        measure(which);
+        if (spoilt < needed && which != OPEN)
+            words[spoilt] = kept;
+        if (which == DUMP && status == STRIKES_OK) {
+            memcpy(bytes, output, a);
+            bytes_length = below(4) ? a : below(a);
+        }
+    }
+    free(words);
+    free(output);
+    free(bytes);
+}
+
+int main(void) {
+    empty = depth(nothing);
+    session(1, 1, 2, 10, 10, 10, 2, 20000);
+    session(1, 4, 8, 20000, 2000, 1000, 8, 20000);
+    session(4, 8, 16, 20000, 2000, 1000, 64, 4000);
+    session(4, 64, 512, 3600000, 3600000, 28347, 1024, 200);
+    printf("%-24s %10s %10s %10s\n", "entry point", "bytes", "through", "refused");
+    for (int i = 0; i < ENTRIES; i++)
+        printf("%-24s %10zu %10lu %10lu\n", entry[i].name, entry[i].deepest, entry[i].through, entry[i].refused);
+    int missing = 0;
+    for (int i = 1; i < 8; i++)
+        missing |= !refusals[i];
+    for (int i = 0; i < 6; i++)
+        missing |= !verdicts[i];
+    missing |= !restored[0] || !restored[1];
+    if (missing)
+        puts("a refusal, a verdict, Whole or Partly did not come");
+    return missing;
+}
