@@ -7,6 +7,7 @@
 pub mod answer;
 pub mod bytes;
 pub mod call;
+pub mod cut;
 pub mod machine;
 pub mod program;
 pub mod read;

@@ -1,0 +1,303 @@
+//! The register behind the trait of a machine that runs lists of calls (docs/CALLS.md): what `build/strikes replay` runs, and what is
+//! compared with the Rust.
+
+use calls::call::Ticket;
+use calls::{Answer, Call, Form, Limits, Machine, Settings, Start, Verdict, Who};
+use strikes::raw::{self, Ask, Manner};
+use strikes::{Refusal, Verdict as Said};
+
+/// The words that a list can be lent at most, whatever a `lend` line says.
+const MOST: u64 = 1 << 24;
+
+/// A run of words with the settings of the last opening that went through.
+#[derive(Default)]
+pub struct Product {
+    /// None before the first opening that went through.
+    kept: Option<[u64; raw::SETTINGS]>,
+    /// What the next call brings instead.
+    brought: Option<[u64; raw::SETTINGS]>,
+    /// The words lent, once a line has said so.
+    lent: Option<u64>,
+    words: Vec<u64>,
+    /// For the bytes of a dump.
+    out: Vec<u8>,
+}
+
+impl Machine for Product {
+    fn run(&mut self, call: &Call) -> Answer {
+        match call {
+            Call::Lend { words } => self.lend(*words),
+            Call::Bring(settings) => {
+                self.brought = Some(settings_words(settings));
+                Answer::Ok
+            }
+            Call::Poke { at, value } => self.poke(*at, *value),
+            Call::Open { settings, starts } => self.open(settings, starts),
+            _ => self.serve(call),
+        }
+    }
+}
+
+impl Product {
+    /// The whole run of words, for looking at.
+    pub fn words(&self) -> &[u64] {
+        &self.words
+    }
+
+    fn lend(&mut self, words: u64) -> Answer {
+        self.lent = Some(words);
+        self.make_room(words);
+        Answer::Ok
+    }
+
+    /// The run is as long as the longest part of it that was asked for; it keeps its content.
+    fn make_room(&mut self, words: u64) {
+        let wanted = words.min(MOST) as usize;
+        if self.words.len() < wanted {
+            self.words.resize(wanted, 0);
+        }
+    }
+
+    fn poke(&mut self, at: u64, value: u64) -> Answer {
+        let word = usize::try_from(at)
+            .ok()
+            .and_then(|at| self.words.get_mut(at));
+        match word {
+            Some(word) => {
+                *word = value;
+                Answer::Ok
+            }
+            None => Answer::Apart,
+        }
+    }
+
+    /// How much of the run is lent: all of it unless a line said otherwise.
+    fn lent(&self) -> usize {
+        let all = self.words.len();
+        self.lent
+            .map_or(all, |lent| all.min(usize::try_from(lent).unwrap_or(all)))
+    }
+
+    fn open(&mut self, settings: &Settings, starts: &[Start]) -> Answer {
+        self.brought = None;
+        let words = settings_words(settings);
+        if let (None, Ok(needed)) = (self.lent, raw::words_needed(&words)) {
+            self.make_room(needed);
+        }
+        let lent = self.lent();
+        let limits = settings.limits.all();
+        match raw::open(
+            &words,
+            &limits,
+            &start_words(starts),
+            &mut self.words[..lent],
+        ) {
+            Ok(()) => {
+                self.kept = Some(words);
+                Answer::Opened
+            }
+            Err(refusal) => refused(refusal),
+        }
+    }
+
+    /// Any call on what was opened.
+    fn serve(&mut self, call: &Call) -> Answer {
+        let brought = self.brought.take();
+        let Some(kept) = self.kept else {
+            return Answer::Apart;
+        };
+        let settings = brought.unwrap_or(kept);
+        let lent = self.lent();
+        let words = &mut self.words[..lent];
+        if let Call::Dump { register, length } = call {
+            return dump(&settings, words, *register, *length, &mut self.out);
+        }
+        serve(&settings, words, call).unwrap_or_else(refused)
+    }
+}
+
+/// A call that is no opening, no dump and sets no stage.
+fn serve(settings: &[u64], words: &mut [u64], call: &Call) -> Result<Answer, Refusal> {
+    Ok(match call {
+        Call::Ask { form, ticket } => {
+            let verdict = raw::ask(manner(*form), settings, words, &ask(ticket))?;
+            Said::of(verdict).map_or(Answer::Broke, |said| Answer::Verdict(verdict_of(said)))
+        }
+        Call::ContainsHash {
+            register,
+            fingerprint,
+        } => Answer::Whether(raw::contains_hash(
+            settings,
+            words,
+            *register,
+            *fingerprint,
+        )?),
+        Call::Begin { register, number } => {
+            match raw::begin(settings, words, *register, *number)? {
+                true => Answer::Begun,
+                false => Answer::Already,
+            }
+        }
+        Call::Expire { reading } => done(raw::expire(settings, words, *reading)?),
+        Call::Sweep { register, reading } => {
+            done(raw::sweep(settings, words, *register, *reading)?)
+        }
+        Call::Limits(limits) => done(raw::set_limits(settings, words, &Limits::all(limits))?),
+        Call::Close => done(raw::close(settings, words)?),
+        Call::Restore { register, bytes } => {
+            restored(raw::restore(settings, words, *register, bytes)?)
+        }
+        Call::Resume {
+            register,
+            bytes,
+            proven,
+        } => {
+            let (flag, floor) = proven.map_or((0, 0), |floor| (1, floor));
+            restored(raw::resume(settings, words, *register, bytes, flag, floor)?)
+        }
+        Call::Floor { register } => Answer::Floor(raw::floor(settings, words, *register)?),
+        Call::Pending { register } => Answer::Whether(raw::pending(settings, words, *register)?),
+        Call::Swept { register } => {
+            let (bucket, published) = raw::swept(settings, words, *register)?;
+            Answer::Swept { bucket, published }
+        }
+        Call::Held { who } => {
+            let (kind, number) = codes(*who);
+            Answer::Entries(raw::held(settings, words, kind, number)?)
+        }
+        Call::Class { class } => {
+            let [entries, holders, units, expired] = raw::class(settings, words, *class)?;
+            Answer::Class {
+                entries,
+                holders,
+                units,
+                expired,
+            }
+        }
+        Call::Open { .. }
+        | Call::Dump { .. }
+        | Call::Lend { .. }
+        | Call::Bring(_)
+        | Call::Poke { .. } => {
+            unreachable!("served elsewhere")
+        }
+    })
+}
+
+/// A dump into an output of `length` bytes, or one that is long enough: no dump is longer than the words that it is of.
+fn dump(
+    settings: &[u64],
+    words: &[u64],
+    register: u64,
+    length: Option<u64>,
+    out: &mut Vec<u8>,
+) -> Answer {
+    let enough = 8 * words.len();
+    let length = length.map_or(enough, |length| {
+        enough.min(usize::try_from(length).unwrap_or(enough))
+    });
+    out.resize(length, 0);
+    match raw::dump(settings, words, register, out) {
+        Ok(written) => out
+            .get(..written as usize)
+            .map_or(Answer::Broke, |bytes| Answer::Bytes(bytes.to_vec())),
+        Err(refusal) => refused(refusal),
+    }
+}
+
+fn done(_: ()) -> Answer {
+    Answer::Ok
+}
+
+fn refused(refusal: Refusal) -> Answer {
+    Answer::Refused(refusal.number())
+}
+
+fn restored((whole, read): (bool, u64)) -> Answer {
+    if whole {
+        Answer::Whole(read)
+    } else {
+        Answer::Partly(read)
+    }
+}
+
+fn manner(form: Form) -> Manner {
+    match form {
+        Form::Judge => Manner::Judge,
+        Form::Take => Manner::Take,
+        Form::JudgeBatch => Manner::JudgeBatch,
+        Form::TakeBatch => Manner::TakeBatch,
+    }
+}
+
+fn ask(ticket: &Ticket) -> Ask {
+    let (kind, number) = codes(ticket.who);
+    Ask {
+        register: ticket.register,
+        fingerprint: ticket.fingerprint,
+        stamp: ticket.stamp,
+        reading: ticket.reading,
+        flag: ticket.flag,
+        kind,
+        number,
+    }
+}
+
+fn verdict_of(said: Said) -> Verdict {
+    match said {
+        Said::New => Verdict::New,
+        Said::Duplicate => Verdict::Duplicate,
+        Said::Late => Verdict::Late,
+        Said::Ahead => Verdict::Ahead,
+        Said::Full => Verdict::Full,
+        Said::Unjudged => Verdict::Unjudged,
+    }
+}
+
+/// A deliverer's kind and number.
+fn codes(who: Who) -> (u64, u64) {
+    match who {
+        Who::Feeder(id) => (0, id),
+        Who::Peer(id) => (1, id),
+        Who::Relay => (2, 0),
+        Who::Restored(class) => (3, class),
+        Who::Kind(kind, number) => (kind, number),
+    }
+}
+
+/// The settings as the entry points take them. Registers past the fourth have no words there.
+pub fn settings_words(settings: &Settings) -> [u64; raw::SETTINGS] {
+    let mut words = [0; raw::SETTINGS];
+    words[..5].copy_from_slice(&[
+        settings.registers,
+        settings.places,
+        settings.pairs,
+        settings.feeder_units,
+        settings.peer_units,
+    ]);
+    for (at, one) in settings.windows.iter().take(4).enumerate() {
+        words[5 + 6 * at..11 + 6 * at].copy_from_slice(&[
+            one.origin.behind,
+            one.origin.ahead,
+            one.copy.behind,
+            one.copy.ahead,
+            one.bucket,
+            one.slots,
+        ]);
+    }
+    words
+}
+
+fn start_words(starts: &[Start]) -> [u64; raw::STARTS] {
+    let mut words = [0; raw::STARTS];
+    for (at, start) in starts.iter().take(4).enumerate() {
+        let (code, floor) = match *start {
+            Start::Empty => (0, 0),
+            Start::Fallback => (1, 0),
+            Start::At(floor) => (2, floor),
+            Start::Code(code, number) => (code, number),
+        };
+        (words[2 * at], words[2 * at + 1]) = (code, floor);
+    }
+    words
+}

@@ -1,0 +1,237 @@
+//! The register on example tickets: what happens when a clock is stepped, a sweep forgets a ticket, and a neighbour's copy of it comes
+//! late. Each verdict is printed with its reason, which is worked out here from what the register tells of itself.
+
+use std::fmt::Write as _;
+use std::io::Write as _;
+use std::process::ExitCode;
+
+use strikes::{
+    Deliverer, Gateway, Limits, Reading, Refusal, Settings, Start, Ticket, Verdict, Window, Windows,
+};
+
+/// The example of the scope paper: a meter's own copy may be 10 s old, a neighbour's 20 s.
+const WINDOWS: Windows = Windows {
+    origin: Window::of(10_000, 2_000),
+    copy: Window::of(20_000, 2_000),
+    bucket: 1_000,
+    slots: 8,
+};
+
+const LIMITS: Limits = Limits {
+    feeder: 4,
+    feeders: 12,
+    peer: 4,
+    peers: 12,
+    relay: 12,
+};
+
+const METER: Deliverer = Deliverer::Feeder(1);
+const FLOODING: Deliverer = Deliverer::Feeder(2);
+const NEIGHBOUR: Deliverer = Deliverer::Peer(9);
+
+pub fn run() -> ExitCode {
+    match tell() {
+        Ok(text) => {
+            // A reader that has seen enough may close the pipe.
+            let _ = std::io::stdout().write_all(text.as_bytes());
+            ExitCode::SUCCESS
+        }
+        Err(refusal) => {
+            eprintln!("strikes: refused: {refusal}");
+            ExitCode::FAILURE
+        }
+    }
+}
+
+/// The whole story as text.
+fn tell() -> Result<String, Refusal> {
+    let settings = Settings::new()
+        .places(4)
+        .pairs(16)
+        .place_units(1, 1)
+        .register(WINDOWS);
+    let gateway = Gateway::open(&settings, &LIMITS, &[Start::Empty])?;
+    let mut story = Story {
+        gateway,
+        text: String::new(),
+    };
+    story.line(&format!(
+        "One register in {} words. Times are milliseconds.",
+        story.gateway.words().len()
+    ));
+    story.line(
+        "A meter's own ticket may be 10000 old, a neighbour's copy 20000, and each 2000 ahead.",
+    );
+
+    story.chapter("A ticket and its copy");
+    story.take(100_000, METER, 7, 100_000)?;
+    story.take(100_400, NEIGHBOUR, 7, 100_000)?;
+
+    story
+        .chapter("The clock is stepped forward by 20000: a correction, which is found wrong later");
+    story.tick(120_400)?;
+
+    story.chapter("The clock is stepped back, and the neighbour's copy comes late");
+    story.tick(100_500)?;
+    story.take(100_600, NEIGHBOUR, 7, 100_000)?;
+    story.line("    The register holds the ticket no more. Without the floor this copy would be New, and counted twice.");
+    story.take(100_700, METER, 8, 100_650)?;
+
+    story.chapter("Clocks that are off");
+    story.take(112_000, METER, 9, 101_000)?;
+    story.take(112_000, NEIGHBOUR, 9, 101_000)?;
+    story.batch(112_000, METER, 10, 114_001)?;
+    story.unsynced(112_000, METER, 11, 112_000)?;
+
+    story.chapter("One meter floods, another is modest");
+    for fingerprint in 20..25 {
+        story.take(112_100, FLOODING, fingerprint, 112_100)?;
+    }
+    story.take(112_200, METER, 30, 112_200)?;
+    Ok(story.text)
+}
+
+struct Story {
+    gateway: Gateway,
+    text: String,
+}
+
+impl Story {
+    fn line(&mut self, text: &str) {
+        let _ = writeln!(self.text, "{text}");
+    }
+
+    fn chapter(&mut self, title: &str) {
+        self.line("");
+        self.line(&format!("{title}."));
+    }
+
+    fn tick(&mut self, ms: u64) -> Result<(), Refusal> {
+        let before = self.gateway.floor(0)?;
+        self.gateway.tick(ms)?;
+        let after = self.gateway.floor(0)?;
+        let swept = self.gateway.swept(0)?.bucket;
+        let what = match after {
+            Some(floor) if after != before => {
+                format!(
+                    "what they held is forgotten, and the floor rises to {floor}, the newest stamp among it"
+                )
+            }
+            Some(floor) => format!("nothing more is forgotten, and the floor stays at {floor}"),
+            None => "nothing is forgotten".into(),
+        };
+        self.line(&format!(
+            "    {ms:>6}  sweep: buckets before {swept} are past; {what}"
+        ));
+        Ok(())
+    }
+
+    fn take(
+        &mut self,
+        ms: u64,
+        who: Deliverer,
+        fingerprint: u64,
+        stamp: u64,
+    ) -> Result<(), Refusal> {
+        let (ticket, now) = (Ticket { fingerprint, stamp }, Reading::at(ms));
+        let verdict = self.gateway.take(0, ticket, now, who)?;
+        self.print(ticket, now, who, verdict)
+    }
+
+    fn batch(
+        &mut self,
+        ms: u64,
+        who: Deliverer,
+        fingerprint: u64,
+        stamp: u64,
+    ) -> Result<(), Refusal> {
+        let (ticket, now) = (Ticket { fingerprint, stamp }, Reading::at(ms));
+        let verdict = self.gateway.take_batch(0, ticket, now, who)?;
+        self.print(ticket, now, who, verdict)
+    }
+
+    /// A ticket that comes while the clock is not synchronised.
+    fn unsynced(
+        &mut self,
+        ms: u64,
+        who: Deliverer,
+        fingerprint: u64,
+        stamp: u64,
+    ) -> Result<(), Refusal> {
+        let (ticket, now) = (
+            Ticket { fingerprint, stamp },
+            Reading { ms, judging: false },
+        );
+        let verdict = self.gateway.take(0, ticket, now, who)?;
+        self.print(ticket, now, who, verdict)
+    }
+
+    fn print(
+        &mut self,
+        ticket: Ticket,
+        now: Reading,
+        who: Deliverer,
+        verdict: Verdict,
+    ) -> Result<(), Refusal> {
+        let reason = self.reason(ticket, now, who, verdict)?;
+        let (ms, who, verdict) = (now.ms, name(who), verdict.to_string());
+        let Ticket { fingerprint, stamp } = ticket;
+        self.line(&format!(
+            "    {ms:>6}  {who:<12} ticket {fingerprint:>2} of {stamp:>6}: {verdict:<9}  {reason}"
+        ));
+        Ok(())
+    }
+
+    fn reason(
+        &self,
+        ticket: Ticket,
+        now: Reading,
+        who: Deliverer,
+        verdict: Verdict,
+    ) -> Result<String, Refusal> {
+        let window = if matches!(who, Deliverer::Feeder(_)) {
+            WINDOWS.origin
+        } else {
+            WINDOWS.copy
+        };
+        let floor = self.gateway.floor(0)?;
+        let bucket = (ticket.stamp + WINDOWS.retained()).div_ceil(WINDOWS.bucket);
+        Ok(match verdict {
+            Verdict::New => {
+                format!("in its window, above the floor and not held; now held in bucket {bucket}")
+            }
+            Verdict::Duplicate => format!("its fingerprint is held in bucket {bucket}"),
+            Verdict::Late if floor.is_some_and(|floor| ticket.stamp <= floor) => {
+                format!("its stamp is not above the floor, {}", floor.unwrap_or(0))
+            }
+            Verdict::Late if ticket.stamp + window.behind < now.ms => {
+                format!(
+                    "{} old, and {} is allowed",
+                    now.ms - ticket.stamp,
+                    window.behind
+                )
+            }
+            Verdict::Late => "the position of its bucket is taken by another bucket".into(),
+            Verdict::Ahead => format!(
+                "{} ahead of the clock, and {} is allowed",
+                ticket.stamp - now.ms,
+                window.ahead
+            ),
+            Verdict::Full => format!(
+                "{} has {} entries, which is its share",
+                name(who),
+                self.gateway.held(who)?
+            ),
+            Verdict::Unjudged => "the clock is not synchronised; nothing is altered".into(),
+        })
+    }
+}
+
+fn name(who: Deliverer) -> String {
+    match who {
+        Deliverer::Feeder(id) => format!("meter {id}"),
+        Deliverer::Peer(id) => format!("neighbour {id}"),
+        Deliverer::Relay => "this gateway".into(),
+        Deliverer::Restored(_) => "a dump".into(),
+    }
+}

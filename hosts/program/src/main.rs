@@ -1,0 +1,55 @@
+//! The register as a program.
+//!
+//!     strikes demo              a clock step, a sweep and a neighbour's late copy, each verdict with its reason
+//!     strikes replay < LIST     runs a list of calls (docs/CALLS.md), prints each answer, compares recorded ones
+//!     strikes check < LIST      the same, but prints differences alone
+//!     strikes record < LIST     prints the list with the register's answers
+//!     strikes view < LIST       runs a list and prints what it leaves so that a person can read it
+//!     strikes view FILE         prints words that a host has kept, as little-endian bytes
+//!     strikes soak SEED [DAYS [PICTURE]]   half a year of a gateway's clock, or so many days, watched by a ledger
+//!
+//! The status is 0 only if every line could be read and every answer agreed.
+
+mod demo;
+mod soak;
+mod view;
+
+use std::process::ExitCode;
+
+use machine::Product;
+
+fn main() -> ExitCode {
+    let words: Vec<String> = std::env::args().skip(1).collect();
+    let words: Vec<&str> = words.iter().map(String::as_str).collect();
+    match words[..] {
+        ["demo"] => demo::run(),
+        ["view"] => view::of_list(),
+        ["view", file] => view::of_file(file),
+        ["soak", seed] => soak(seed, SOAK_DAYS, SOAK_PICTURE),
+        ["soak", seed, days] => soak(seed, days, SOAK_PICTURE),
+        ["soak", seed, days, file] => soak(seed, days, file),
+        [command] => match calls::program::print_of(command) {
+            Some(print) => calls::program::run(&mut Product::default(), print),
+            None => usage(),
+        },
+        _ => usage(),
+    }
+}
+
+const SOAK_DAYS: &str = "184";
+const SOAK_PICTURE: &str = "build/soak.svg";
+
+fn soak(seed: &str, days: &str, file: &str) -> ExitCode {
+    match (seed.parse(), days.parse()) {
+        (Ok(seed), Ok(days)) if days > 0 => soak::run(seed, days, file),
+        _ => usage(),
+    }
+}
+
+fn usage() -> ExitCode {
+    eprintln!(
+        "strikes demo, {}, view < LIST, view FILE, soak SEED [DAYS [PICTURE]]",
+        calls::program::USAGE
+    );
+    ExitCode::from(2)
+}

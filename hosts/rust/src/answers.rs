@@ -1,0 +1,231 @@
+//! What goes in and comes out of calls, by name.
+
+use std::error::Error;
+use std::fmt;
+
+/// What the register makes of a ticket.
+#[derive(Clone, Copy, Debug, PartialEq, Eq, Hash)]
+pub enum Verdict {
+    /// Not seen before and in time: a judge promises nothing yet, a take has counted it.
+    New,
+    /// Its fingerprint is held in its bucket.
+    Duplicate,
+    /// At or below the floor, outside its window, or its position is taken: never to be counted.
+    Late,
+    /// Stamped past the front of its window; told by the batch forms alone.
+    Ahead,
+    /// No share or no room: not counted and not remembered.
+    Full,
+    /// The register is pending, or the clock does not judge.
+    Unjudged,
+}
+
+impl Verdict {
+    /// By its number in the entry points.
+    pub fn of(number: u64) -> Option<Self> {
+        [
+            Self::New,
+            Self::Duplicate,
+            Self::Late,
+            Self::Ahead,
+            Self::Full,
+            Self::Unjudged,
+        ]
+        .get(usize::try_from(number).ok()?)
+        .copied()
+    }
+}
+
+impl fmt::Display for Verdict {
+    fn fmt(&self, f: &mut fmt::Formatter<'_>) -> fmt::Result {
+        f.write_str(match self {
+            Self::New => "New",
+            Self::Duplicate => "Duplicate",
+            Self::Late => "Late",
+            Self::Ahead => "Ahead",
+            Self::Full => "Full",
+            Self::Unjudged => "Unjudged",
+        })
+    }
+}
+
+/// Why a call was refused. It altered nothing.
+#[derive(Clone, Copy, Debug, PartialEq, Eq, Hash)]
+pub enum Refusal {
+    /// 1: a setting or limit outside its bounds, or a code that is not listed.
+    Unfit,
+    /// 2: fewer words lent than the settings need.
+    TooFewWords,
+    /// 3: words that break a rule of soundness, or that keep other settings.
+    Unsound,
+    /// 4: no such register.
+    NoRegister,
+    /// 5: the output is too short for the dump.
+    ShortOutput,
+    /// 6: a dump of a register that is pending.
+    Pending,
+    /// 7: a dump that is cut short.
+    CutShort,
+    /// A number that this wrapper does not know: it was built for another library.
+    Unknown(u64),
+}
+
+impl Refusal {
+    /// By its number in the entry points; none for 0, which is no refusal.
+    pub fn of(number: u64) -> Option<Self> {
+        match number {
+            0 => None,
+            1 => Some(Self::Unfit),
+            2 => Some(Self::TooFewWords),
+            3 => Some(Self::Unsound),
+            4 => Some(Self::NoRegister),
+            5 => Some(Self::ShortOutput),
+            6 => Some(Self::Pending),
+            7 => Some(Self::CutShort),
+            other => Some(Self::Unknown(other)),
+        }
+    }
+
+    /// Its number in the entry points.
+    pub fn number(self) -> u64 {
+        match self {
+            Self::Unfit => 1,
+            Self::TooFewWords => 2,
+            Self::Unsound => 3,
+            Self::NoRegister => 4,
+            Self::ShortOutput => 5,
+            Self::Pending => 6,
+            Self::CutShort => 7,
+            Self::Unknown(number) => number,
+        }
+    }
+}
+
+impl fmt::Display for Refusal {
+    fn fmt(&self, f: &mut fmt::Formatter<'_>) -> fmt::Result {
+        match self {
+            Self::Unfit => {
+                f.write_str("1: a setting or limit is outside its bounds, or a code is not listed")
+            }
+            Self::TooFewWords => f.write_str("2: fewer words are lent than the settings need"),
+            Self::Unsound => {
+                f.write_str("3: the words break a rule of soundness, or keep other settings")
+            }
+            Self::NoRegister => f.write_str("4: there is no such register"),
+            Self::ShortOutput => f.write_str("5: the output is too short for the dump"),
+            Self::Pending => f.write_str("6: a register that is pending has no dump"),
+            Self::CutShort => f.write_str("7: the dump is cut short"),
+            Self::Unknown(number) => {
+                write!(f, "{number}: a refusal that this wrapper does not know")
+            }
+        }
+    }
+}
+
+impl Error for Refusal {}
+
+/// The classes of deliverers. Each has its own places and generations.
+#[derive(Clone, Copy, Debug, PartialEq, Eq, Hash)]
+pub enum Class {
+    Feeders,
+    Peers,
+    Own,
+}
+
+impl Class {
+    pub const ALL: [Self; 3] = [Self::Feeders, Self::Peers, Self::Own];
+
+    pub fn number(self) -> u64 {
+        match self {
+            Self::Feeders => 0,
+            Self::Peers => 1,
+            Self::Own => 2,
+        }
+    }
+}
+
+/// Who delivered a ticket.
+#[derive(Clone, Copy, Debug, PartialEq, Eq, Hash)]
+pub enum Deliverer {
+    /// The meter itself, judged by the window `origin`.
+    Feeder(u64),
+    /// A neighbour gateway, judged by the window `copy`, as the two below.
+    Peer(u64),
+    /// This gateway.
+    Relay,
+    /// Nobody in this run: what a restore brought back of a class.
+    Restored(Class),
+}
+
+impl Deliverer {
+    /// Its kind and number in the entry points.
+    pub fn codes(self) -> (u64, u64) {
+        match self {
+            Self::Feeder(id) => (0, id),
+            Self::Peer(id) => (1, id),
+            Self::Relay => (2, 0),
+            Self::Restored(class) => (3, class.number()),
+        }
+    }
+}
+
+/// Where a register starts.
+#[derive(Clone, Copy, Debug, PartialEq, Eq, Hash)]
+pub enum Start {
+    /// With no floor: a gateway that never ran before.
+    Empty,
+    /// Pending, until [`begin`](crate::Gateway::begin) brings a floor: a gateway that has lost what it knew.
+    Fallback,
+    /// With a floor: nothing stamped up to it is New.
+    At(u64),
+}
+
+impl Start {
+    /// Its code and floor in the entry points.
+    pub fn codes(self) -> (u64, u64) {
+        match self {
+            Self::Empty => (0, 0),
+            Self::Fallback => (1, 0),
+            Self::At(floor) => (2, floor),
+        }
+    }
+}
+
+/// What `begin` found.
+#[derive(Clone, Copy, Debug, PartialEq, Eq, Hash)]
+pub enum Begun {
+    /// The register was pending and judges from now on.
+    Begun,
+    /// It judged already; nothing was altered.
+    Already,
+}
+
+/// What a restore or resume brought back.
+#[derive(Clone, Copy, Debug, PartialEq, Eq, Hash)]
+pub enum Restored {
+    /// Everything; and the bytes that the dump takes.
+    Whole(u64),
+    /// All but generations that did not fit, for which the floor was raised; and the bytes that the dump takes.
+    Partly(u64),
+}
+
+/// A class's part of the share book.
+#[derive(Clone, Copy, Debug, Default, PartialEq, Eq, Hash)]
+pub struct Totals {
+    /// Entries drawn and not yet freed.
+    pub entries: u64,
+    /// Deliverers with entries.
+    pub holders: u64,
+    /// Entries and the units of the holders' places.
+    pub units: u64,
+    /// The second up to which entries were freed.
+    pub expired: u64,
+}
+
+/// How far a register is swept.
+#[derive(Clone, Copy, Debug, Default, PartialEq, Eq, Hash)]
+pub struct Swept {
+    pub bucket: u64,
+    /// The same in milliseconds of the clock.
+    pub published: u64,
+}

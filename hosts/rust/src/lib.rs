@@ -1,0 +1,19 @@
+//! A strike register for meter tickets: whether a ticket, a 64-bit fingerprint and a stamp in milliseconds, is new, so that none is
+//! counted twice, whatever the clock did in between.
+//!
+//! [`Gateway`] owns its words and answers with [`Verdict`]s and [`Refusal`]s; [`raw`] has the same calls over slices that the host
+//! keeps, with plain numbers. The work is done by `libstrikes.a`, in which every function is proved to meet its contract.
+//! docs/HOST-GUIDE.md tells a gateway's day.
+//!
+//! Nothing here is shared between gateways: two of them may be used by two threads.
+
+pub mod abi;
+mod answers;
+mod gateway;
+pub mod raw;
+mod settings;
+pub mod words;
+
+pub use answers::{Begun, Class, Deliverer, Refusal, Restored, Start, Swept, Totals, Verdict};
+pub use gateway::{Gateway, Reading, Ticket};
+pub use settings::{Limits, Settings, Window, Windows};

@@ -1,0 +1,423 @@
+//! The tables for one size and fill.
+
+use std::fmt::Write;
+use std::hint::black_box;
+
+use calls::{Form, Who};
+use strikes::raw;
+
+use crate::book::Book;
+use crate::both::{self, Ours, READING};
+use crate::measure::{FEW_TIMES, Figures, TIMES, nanoseconds, repeats, short, warm_up};
+use crate::settings::{Fill, Size};
+
+/// Something that is timed over and over: its name, how often it is repeated, and what was measured.
+struct Measure<'a> {
+    name: &'static str,
+    act: Box<dyn FnMut() + 'a>,
+    times: u64,
+    figures: Figures,
+}
+
+struct Measures<'a>(Vec<Measure<'a>>);
+
+impl<'a> Measures<'a> {
+    fn add(&mut self, name: &'static str, mut act: impl FnMut() + 'a) {
+        let times = repeats(&mut act);
+        self.0.push(Measure {
+            name,
+            act: Box::new(act),
+            times,
+            figures: Figures::default(),
+        });
+    }
+
+    /// In each run the measures take turns, and the least time of each counts.
+    fn run(&mut self, runs: usize) {
+        let long = self.0.iter().any(|measure| measure.times == 1);
+        for _ in 0..runs {
+            let mut least = vec![f64::MAX; self.0.len()];
+            for _ in 0..if long { FEW_TIMES } else { TIMES } {
+                for (measure, least) in self.0.iter_mut().zip(&mut least) {
+                    warm_up(&mut measure.act);
+                    *least = least.min(nanoseconds(measure.times, &mut measure.act));
+                }
+            }
+            for (measure, least) in self.0.iter_mut().zip(least) {
+                measure.figures.0.push(least);
+            }
+        }
+    }
+
+    fn of(&self, name: &str) -> &Figures {
+        &self
+            .0
+            .iter()
+            .find(|measure| measure.name == name)
+            .expect("a measure")
+            .figures
+    }
+}
+
+/// The contents that are gone through in turn, so that no branch predictor knows them by heart.
+const CONTENTS: u64 = 8;
+
+pub fn of(size: &Size, fill: Fill, runs: usize) -> String {
+    let settings = size.settings();
+    let needed = settings.words();
+    // Of so many words no predictor knows anything by heart.
+    let contents = if needed > 1_000_000 { 2 } else { CONTENTS };
+    let same = soundness(size, fill, 1, runs);
+    let turns = soundness(size, fill, contents, runs);
+    let mut out = format!("\n### {}, {}: {needed} words\n\n", size.name, fill.name());
+    out += "| soundness test | the same words over and over, ns | ";
+    let _ = writeln!(out, "{contents} contents in turn, ns |\n|---|---:|---:|");
+    let mut row = |name: &str, of: &dyn Fn(&Named) -> Figures| {
+        let _ = writeln!(
+            out,
+            "| {name} | {} | {} |",
+            of(&same).spread(),
+            of(&turns).spread()
+        );
+    };
+    row("plain read of the words (their sum)", &|read| {
+        read.of("sum").clone()
+    });
+    row("the test in Rust", &|read| read.of("test").clone());
+    row(
+        "`floor`, which is the register's test and little else",
+        &|read| read.of("floor").clone(),
+    );
+    row("`judge`", &|read| read.of("judge").clone());
+    row("**`floor` to the test in Rust**", &|read| {
+        read.of("floor").to(read.of("test"))
+    });
+    row("`floor` to the plain read", &|read| {
+        read.of("floor").to(read.of("sum"))
+    });
+    row("**`judge` to the plain read**", &|read| {
+        read.of("judge").to(read.of("sum"))
+    });
+    let dump = both::dump(&settings, fill, 1);
+    out += &calls(size, dump.as_deref(), runs);
+    out
+}
+
+/// A plain read.
+#[inline(never)]
+fn sum(words: &[u64]) -> u64 {
+    words.iter().fold(0, |sum, word| sum.wrapping_add(*word))
+}
+
+/// The register's soundness test beside a plain read and the same test in Rust.
+fn soundness(size: &Size, fill: Fill, contents: u64, runs: usize) -> Named {
+    let settings = size.settings();
+    let all: Vec<Ours> = (1..=contents)
+        .map(|seed| both::ours(&settings, both::dump(&settings, fill, seed).as_deref()))
+        .collect();
+    let ask = both::ask(&both::ticket(&settings, 0));
+    let next = |at: &mut usize| {
+        *at = (*at + 1) % all.len();
+        &all[*at]
+    };
+    let mut judged: Vec<Vec<u64>> = all.iter().map(|ours| ours.words.clone()).collect();
+    let [mut a, mut b, mut c, mut d] = [0; 4];
+    let mut measures = Measures(Vec::new());
+    measures.add("sum", || {
+        black_box(sum(black_box(&next(&mut a).words)));
+    });
+    measures.add("test", || {
+        black_box(soundness::sound(
+            black_box(&settings),
+            black_box(&next(&mut b).words),
+        ));
+    });
+    measures.add("floor", || look(next(&mut c)));
+    measures.add("judge", || {
+        d = (d + 1) % judged.len();
+        let kept = &all[0].settings;
+        black_box(raw::ask(
+            raw::Manner::Judge,
+            kept,
+            &mut judged[d],
+            black_box(&ask),
+        ))
+        .expect("sound words");
+    });
+    measures.run(runs);
+    Named(
+        measures
+            .0
+            .iter()
+            .map(|measure| (measure.name, measure.figures.clone()))
+            .collect(),
+    )
+}
+
+/// Figures by name, without what was timed.
+struct Named(Vec<(&'static str, Figures)>);
+
+impl Named {
+    fn of(&self, name: &str) -> &Figures {
+        &self
+            .0
+            .iter()
+            .find(|(found, _)| *found == name)
+            .expect("a measure")
+            .1
+    }
+}
+
+/// A call: its figures on the register, those of `floor` on the same words in the same runs, and those of the Rust.
+struct Compared {
+    name: &'static str,
+    ours: Figures,
+    floor: Figures,
+    rust: Figures,
+}
+
+/// Each call on both. What a call costs beyond its soundness test is its time less that of `floor`.
+fn calls(size: &Size, dump: Option<&[u8]>, runs: usize) -> String {
+    let mut out = String::from(
+        "\n| call | register ns | less `floor` ns | Rust ns | (call less `floor`) to Rust | call to Rust |\n",
+    );
+    out += "|---|---:|---:|---:|---:|---:|\n";
+    for Compared {
+        name,
+        ours,
+        floor,
+        rust,
+    } in pairs(size, dump, runs)
+    {
+        let less = ours.minus(&floor);
+        let _ = writeln!(
+            out,
+            "| {name} | {} | {} | {} | {} | {} |",
+            short(ours.median()),
+            less.spread_or_noise(),
+            short(rust.median()),
+            less.to(&rust).spread_or_noise(),
+            short(ours.to(&rust).median())
+        );
+    }
+    out
+}
+
+fn pairs(size: &Size, dump: Option<&[u8]>, runs: usize) -> Vec<Compared> {
+    let mut all = Vec::new();
+    for (name, form) in [("judge", Form::Judge), ("judge_batch", Form::JudgeBatch)] {
+        all.push(repeated(
+            name,
+            size,
+            dump,
+            runs,
+            |ours, number, settings| {
+                let ask = both::ask(&both::ticket(settings, number));
+                black_box(raw::ask(
+                    both::manner(form),
+                    &ours.settings,
+                    &mut ours.words,
+                    &ask,
+                ))
+                .expect("sound words");
+            },
+            |book, number, settings| {
+                black_box(book.ask(form, &both::ticket(settings, number), Who::Feeder(1)));
+            },
+        ));
+    }
+    all.push(taken("take", Form::Take, size, dump, runs));
+    all.push(taken("take_batch", Form::TakeBatch, size, dump, runs));
+    all.push(repeated(
+        "contains_hash",
+        size,
+        dump,
+        runs,
+        |ours, number, _| {
+            black_box(raw::contains_hash(&ours.settings, &ours.words, 0, number))
+                .expect("sound words");
+        },
+        |book, number, _| {
+            black_box(book.contains_hash(0, number));
+        },
+    ));
+    all.push(repeated(
+        "sweep",
+        size,
+        dump,
+        runs,
+        |ours, _, _| raw::sweep(&ours.settings, &mut ours.words, 0, READING).expect("sound words"),
+        |book, _, _| {
+            black_box(book.sweep(0, READING));
+        },
+    ));
+    all.push(repeated(
+        "expire",
+        size,
+        dump,
+        runs,
+        |ours, _, _| raw::expire(&ours.settings, &mut ours.words, READING).expect("sound words"),
+        |book, _, _| {
+            black_box(book.expire(READING));
+        },
+    ));
+    all.push(repeated(
+        "class",
+        size,
+        dump,
+        runs,
+        |ours, _, _| {
+            black_box(raw::class(&ours.settings, &ours.words, 0)).expect("sound words");
+        },
+        |book, _, _| {
+            black_box(book.class(0));
+        },
+    ));
+    let mut output = vec![0; 8 * size.settings().words() as usize];
+    all.push(repeated(
+        "dump",
+        size,
+        dump,
+        runs,
+        move |ours, _, _| {
+            black_box(raw::dump(&ours.settings, &ours.words, 0, &mut output)).expect("room enough");
+        },
+        |book, _, _| {
+            black_box(book.dump(0)).expect("not pending");
+        },
+    ));
+    if let Some(dump) = dump {
+        all.push(restored(size, dump, runs));
+    }
+    all
+}
+
+/// A call that can be repeated on the same words.
+fn repeated(
+    name: &'static str,
+    size: &Size,
+    dump: Option<&[u8]>,
+    runs: usize,
+    mut ours: impl FnMut(&mut Ours, u64, &calls::Settings),
+    mut theirs: impl FnMut(&mut Book, u64, &calls::Settings),
+) -> Compared {
+    let settings = size.settings();
+    let (mut register, mut book) = (both::ours(&settings, dump), both::rust(&settings, dump));
+    let other = both::ours(&settings, dump);
+    let (mut a, mut b) = (0, 0);
+    let mut measures = Measures(Vec::new());
+    measures.add("floor", || look(&other));
+    measures.add("ours", || {
+        a += 1;
+        ours(&mut register, a, &settings);
+    });
+    measures.add("rust", || {
+        b += 1;
+        theirs(&mut book, b, &settings);
+    });
+    measures.run(runs);
+    Compared {
+        name,
+        ours: measures.of("ours").clone(),
+        floor: measures.of("floor").clone(),
+        rust: measures.of("rust").clone(),
+    }
+}
+
+/// The reader that does little beside its soundness test.
+fn look(ours: &Ours) {
+    black_box(raw::floor(&ours.settings, black_box(&ours.words), 0)).expect("sound words");
+}
+
+/// The tickets of a stretch of takes: all are New in an empty register, and all Full in a full one.
+const STRETCH: u64 = 48;
+
+/// Takes alter what they are timed on, so each stretch of them starts anew, and `floor` is timed before and after it.
+fn taken(
+    name: &'static str,
+    form: Form,
+    size: &Size,
+    dump: Option<&[u8]>,
+    runs: usize,
+) -> Compared {
+    let settings = size.settings();
+    let fresh = both::ours(&settings, dump);
+    let mut register = both::ours(&settings, dump);
+    let tickets: Vec<_> = (0..STRETCH)
+        .map(|number| both::ticket(&settings, number))
+        .collect();
+    let stretches = if settings.words() > 100_000 { 2 } else { 64 };
+    let mut stretch = || {
+        register.words.copy_from_slice(&fresh.words);
+        let before = nanoseconds(STRETCH, || look(&register));
+        let mut next = tickets.iter();
+        let ours = nanoseconds(STRETCH, || {
+            let ask = both::ask(next.next().expect("as many"));
+            black_box(raw::ask(
+                both::manner(form),
+                &register.settings,
+                &mut register.words,
+                &ask,
+            ))
+            .expect("sound words");
+        });
+        let after = nanoseconds(STRETCH, || look(&register));
+        let mut book = both::rust(&settings, dump);
+        let mut next = tickets.iter();
+        let rust = nanoseconds(STRETCH, || {
+            let ticket = next.next().expect("as many");
+            black_box(book.ask(form, ticket, ticket.who));
+        });
+        [ours, (before + after) / 2.0, rust]
+    };
+    least_of(name, runs, stretches, &mut stretch)
+}
+
+/// The longest dump into a register that is empty.
+fn restored(size: &Size, dump: &[u8], runs: usize) -> Compared {
+    let settings = size.settings();
+    let fresh = both::ours(&settings, None);
+    let mut register = both::ours(&settings, None);
+    let mut once = || {
+        register.words.copy_from_slice(&fresh.words);
+        let floor = nanoseconds(1, || look(&register));
+        let ours = nanoseconds(1, || {
+            black_box(raw::restore(
+                &register.settings,
+                &mut register.words,
+                0,
+                dump,
+            ))
+            .expect("a whole dump");
+        });
+        let mut book = both::rust(&settings, None);
+        let rust = nanoseconds(1, || {
+            black_box(book.restore(0, dump));
+        });
+        [ours, floor, rust]
+    };
+    least_of("restore of the longest dump", runs, FEW_TIMES, &mut once)
+}
+
+/// In each run the least of so many times of the register's, of `floor` and of the Rust's.
+fn least_of(
+    name: &'static str,
+    runs: usize,
+    times: usize,
+    once: &mut impl FnMut() -> [f64; 3],
+) -> Compared {
+    let mut compared = Compared {
+        name,
+        ours: Figures::default(),
+        floor: Figures::default(),
+        rust: Figures::default(),
+    };
+    for _ in 0..runs {
+        let all: Vec<[f64; 3]> = (0..times).map(|_| once()).collect();
+        let least = |of: usize| all.iter().map(|one| one[of]).fold(f64::MAX, f64::min);
+        compared.ours.0.push(least(0));
+        compared.floor.0.push(least(1));
+        compared.rust.0.push(least(2));
+    }
+    compared
+}

@@ -1,0 +1,114 @@
+//! The register and the Rust as one machine, whose answer is the Rust's as long as the two agree.
+
+use std::collections::BTreeSet;
+
+use calls::{Answer, Call, Machine, Settings, Who};
+use machine::Product;
+
+use crate::oracle::Oracle;
+
+/// Everything is looked at after so many calls, and less often where a look is dear.
+const OFTEN: u64 = 8;
+const SELDOM: u64 = 200;
+/// From so many words on.
+const MANY: u64 = 20_000;
+
+#[derive(Default)]
+pub struct Pair {
+    rust: Oracle,
+    product: Product,
+    /// The calls since the last opening that went through, with those that looked.
+    list: Vec<Call>,
+    settings: Option<Settings>,
+    /// The deliverers that came up since then.
+    parties: BTreeSet<Who>,
+    since_look: u64,
+    /// The calls compared, and how often everything was looked at.
+    pub calls: u64,
+    pub looks: u64,
+    differs: bool,
+}
+
+impl Machine for Pair {
+    fn run(&mut self, call: &Call) -> Answer {
+        let answer = self.compare(call);
+        self.calls += 1;
+        self.since_look += 1;
+        let many = self
+            .settings
+            .as_ref()
+            .is_some_and(|settings| settings.words() > MANY);
+        if self.since_look >= if many { SELDOM } else { OFTEN } {
+            self.since_look = 0;
+            self.look_at_everything();
+        }
+        if self.differs { Answer::Broke } else { answer }
+    }
+}
+
+impl Pair {
+    /// The list that ends with a difference, if there was one.
+    pub fn differing(&self) -> Option<Vec<Call>> {
+        self.differs.then(|| self.list.clone())
+    }
+
+    /// One call on both. From a difference on nothing more is run.
+    fn compare(&mut self, call: &Call) -> Answer {
+        if self.differs {
+            return Answer::Broke;
+        }
+        let (theirs, ours) = (self.rust.run(call), self.product.run(call));
+        self.note(call, &theirs);
+        self.differs = !agree(&theirs, &ours);
+        theirs
+    }
+
+    fn note(&mut self, call: &Call, answer: &Answer) {
+        if let (Call::Open { settings, .. }, Answer::Opened) = (call, answer) {
+            self.list.clear();
+            self.parties.clear();
+            self.settings = Some(settings.clone());
+        }
+        if let Call::Ask { ticket, .. } = call {
+            self.parties.extend(ticket.who.listed());
+        }
+        self.list.push(call.clone());
+    }
+
+    fn look_at_everything(&mut self) {
+        let Some(settings) = &self.settings else {
+            return;
+        };
+        self.looks += 1;
+        for call in looks(settings.registers, &self.parties) {
+            self.compare(&call);
+        }
+    }
+}
+
+/// Whether two answers agree: what the Rust does not run is not compared.
+pub fn agree(theirs: &Answer, ours: &Answer) -> bool {
+    *theirs == Answer::Apart || theirs == ours
+}
+
+/// The calls that tell everything.
+fn looks(registers: u64, parties: &BTreeSet<Who>) -> Vec<Call> {
+    let mut calls = Vec::new();
+    for register in 0..registers {
+        calls.extend([
+            Call::Dump {
+                register,
+                length: None,
+            },
+            Call::Floor { register },
+            Call::Pending { register },
+            Call::Swept { register },
+        ]);
+    }
+    calls.extend(parties.iter().map(|who| Call::Held { who: *who }));
+    calls.extend((0..3).map(|class| Call::Held {
+        who: Who::Restored(class),
+    }));
+    calls.extend((0..3).map(|class| Call::Class { class }));
+    calls
+}

@@ -1,0 +1,107 @@
+#!/usr/bin/env python3
+"""Puts faults into a copy of the register's source, one at a time, and replays the recorded lists on it: each must be noticed.
+
+    tests/product/faults.py [FAULT ...]
+
+A fault is a list of edits, each a file, an anchor that must stand in it exactly once, and what stands in its place: the faults of
+tests/oracle/faults.py, put into the register. The proofs would refuse each of them, so the copy is run by `rt try`, which proves
+nothing; `rt try` compares what crates/replay writes with its file `stdout`. Its interpreter takes no list of this length, so that
+what counts is the program compiled at -O3. Status 0 only if the source without a fault agrees and every fault is noticed.
+"""
+
+import shutil
+import subprocess
+import sys
+from pathlib import Path
+
+ROOT = Path(__file__).resolve().parent.parent.parent
+COPY = ROOT / "build/faults/product"
+
+DECIDE = "book/src/decide.rt"
+GENERATION = "generation/src/lib.rt"
+
+FAULTS = {
+    "no-floor-on-sweep": [
+        ("register/src/rings.rt", "heading::raise_by(part, went);", ""),
+    ],
+    # A party within its equal part is turned away once the class has its limit.
+    "equal-part-ignored": [(DECIDE, "if t / holders < own {", "if 0 < holders {")],
+    # Parties past their equal part are let in up to twice the limit.
+    "equal-part-untested": [(DECIDE, "if t / holders < own {", "if t < own {")],
+    # Drawn before room is looked for, and not given back where there is none.
+    "share-not-given-back": [
+        ("taking/src/lib.rt", "    shares::enter(run, s, ticket, spot);\n    whole::strike", "    whole::strike"),
+        ("taking/src/lib.rt", "    let room = whole::room(run, s, r, ticket);",
+         "    shares::enter(run, s, ticket, spot);\n    let room = whole::room(run, s, r, ticket);"),
+    ],
+    "growth-forgets-one": [
+        ("generation/src/slots.rt", "    let mut i = 0;\n    while i < old.len()", "    let mut i = 1;\n    while i < old.len()"),
+    ],
+    "restore-keeps-its-draws": [
+        ("restoring/src/holding.rt", "give_back_all(run, s, r, h, tally.draws);", "give_back_all(run, s, r, h, 0);"),
+    ],
+    "expire-by-the-reading-alone": [
+        ("expiring/src/lib.rt", "let least = taking::least_published(run, s, reading);", "let least = reading;"),
+    ],
+    "second-rounded-down": [
+        ("numbers/src/spans.rt", "capped::ceil_div(capped::capped_mul(bucket.0, width), 1000)",
+         "capped::capped_mul(bucket.0, width) / 1000"),
+    ],
+    "newest-not-kept": [(GENERATION, "let newest = larger(head.newest, stamp);", "let newest = stamp;")],
+    "position-clash-overwritten": [
+        (GENERATION, "if (part[3] != bucket.0) & (part[1] != 0) {", "if (part[3] != bucket.0) & (part[1] == 18446744073709551615) {"),
+        (GENERATION, "    grow(part, known);\n    enter(", "    if part[3] != bucket.0 {\n        drop_all(part);\n    }\n    grow(part, known);\n    enter("),
+    ],
+    "ahead-for-late": [
+        ("register/src/judging.rt", "Verdict::Late => late_or_ahead(past),", "Verdict::Late => late_or_ahead(true),"),
+    ],
+    "twice-the-limit-and-one": [(DECIDE, "if 2 * t < units {", "if 2 * t + 1 < units {")],
+    "twice-the-limit-less-one": [(DECIDE, "if 2 * t < units {", "if 2 * t <= units {")],
+    "one-pair-too-many": [(DECIDE, "(used < pairs)", "(used <= pairs)")],
+    "one-pair-too-few": [(DECIDE, "(used < pairs)", "(used + 1 < pairs)")],
+}
+
+
+def put_in(edits):
+    """A fresh copy of the crates with the edits made."""
+    shutil.rmtree(COPY, ignore_errors=True)
+    COPY.mkdir(parents=True)
+    shutil.copytree(ROOT / "crates", COPY / "crates")
+    shutil.copy(ROOT / "crates.txt", COPY)
+    for file, anchor, instead in edits:
+        path = COPY / "crates" / file
+        text = path.read_text()
+        if text.count(anchor) != 1:
+            sys.exit(f"faults.py: {file}: '{anchor}' is there {text.count(anchor)} times, not once")
+        path.write_text(text.replace(anchor, instead))
+
+
+def tried():
+    """What `rt try` says of the program at -O3: whether it wrote what is expected, and its line."""
+    run = subprocess.run(["rt", "try", "replay"], cwd=COPY, capture_output=True, text=True)
+    lines = (run.stdout + run.stderr).splitlines()
+    for at, line in enumerate(lines):
+        if "-O3" in line:
+            after = lines[at + 1] if at + 1 < len(lines) and not line.startswith("ok") else ""
+            return line.startswith("ok"), f"{line} {after}"
+    sys.exit("faults.py: rt try did not run the program: " + "\n".join(lines)[:2000])
+
+
+def main():
+    put_in([])
+    agrees, line = tried()
+    if not agrees:
+        sys.exit(f"without any fault the register differs already: {line}")
+    wanted = sys.argv[1:] or list(FAULTS)
+    missed = 0
+    for fault in wanted:
+        put_in(FAULTS[fault])
+        agrees, line = tried()
+        missed += agrees
+        print(f"{fault}: {'NOT NOTICED' if agrees else 'noticed'}: {line[:160]}", flush=True)
+    print(f"{len(wanted)} faults, {missed} not noticed")
+    sys.exit(missed > 0)
+
+
+if __name__ == "__main__":
+    main()

@@ -1,0 +1,203 @@
+//! The rules tried one by one on the smallest words: one register of ring 2 and S 2, two places of two pairs.
+
+use crate::{Broken, Call, broken, refusal, settings_of};
+
+fn settings() -> [u64; 29] {
+    let mut words = [0; 29];
+    words[..11].copy_from_slice(&[1, 2, 2, 1, 1, 0, 0, 0, 0, 1, 2]);
+    words
+}
+
+/// 20 words of the front, three classes of 4 + 2 × 8, then a register of 24 + 3 × 2 × 6, then 3 × 24.
+const CLASSES: usize = 20;
+const REGISTER: usize = 20 + 3 * 20;
+const NEEDED: usize = REGISTER + 24 + 36 + 72;
+
+fn opened() -> Vec<u64> {
+    let mut words = vec![0; NEEDED];
+    words[..5].copy_from_slice(&[1, 2, 2, 1, 1]);
+    words[REGISTER + 4] = 1;
+    words[REGISTER + 5] = 2;
+    words
+}
+
+/// One Feeder with two entries in one second, and one fingerprint in bucket 4 at position 0.
+fn taken() -> Vec<u64> {
+    let mut words = opened();
+    words[CLASSES..CLASSES + 12].copy_from_slice(&[2, 1, 3, 0, 0, 77, 2, 1, 9, 2, 0, 0]);
+    words[REGISTER + 24..REGISTER + 30].copy_from_slice(&[2, 1, 5, 4, 0, 7]);
+    words
+}
+
+fn rule(words: &[u64]) -> Option<Broken> {
+    broken(&settings_of(&settings()).expect("fit settings"), words)
+}
+
+#[test]
+fn the_words_needed_are_the_papers() {
+    assert_eq!(
+        settings_of(&settings()).expect("fit settings").words(),
+        NEEDED as u64
+    );
+}
+
+#[test]
+fn opened_and_taken_words_are_sound() {
+    assert_eq!(rule(&opened()), None);
+    assert_eq!(rule(&taken()), None);
+}
+
+#[test]
+fn each_rule_is_noticed() {
+    let place = CLASSES + 4;
+    let generation = REGISTER + 24;
+    let cases: [(&[(usize, u64)], Option<Broken>); 32] = [
+        (&[(0, 2)], Some(Broken::KeptSettings)),
+        (&[(REGISTER + 3, 1)], Some(Broken::KeptSettings)),
+        (&[(5, 1_000_001)], Some(Broken::KeptLimits)),
+        (&[(10, 2)], Some(Broken::Flag)),
+        (&[(11, 9), (19, 9)], None),
+        (&[(place + 3, 0)], Some(Broken::UnusedPlace)),
+        (&[(place + 8 + 3, 1)], Some(Broken::Counts)),
+        (&[(place, 1)], Some(Broken::DelivererOfClass)),
+        (&[(place, 3)], None),
+        (&[(place + 3, 3)], Some(Broken::PairsNumber)),
+        (&[(place + 3, u64::MAX)], Some(Broken::PairsNumber)),
+        (&[(place + 4, 1 << 32)], Some(Broken::SecondsRising)),
+        (&[(place + 5, 0)], Some(Broken::Counts)),
+        (&[(place + 5, 3)], Some(Broken::Entries)),
+        (&[(place + 6, 5), (place + 7, 6)], None),
+        // Counts whose sum is 2 modulo 2^64.
+        (
+            &[
+                (place + 3, 2),
+                (place + 5, 1 << 63),
+                (place + 6, 10),
+                (place + 7, (1 << 63) + 2),
+            ],
+            Some(Broken::Entries),
+        ),
+        (&[(CLASSES, 1)], Some(Broken::Totals)),
+        (&[(CLASSES + 2, 4)], Some(Broken::Totals)),
+        (&[(CLASSES + 3, 1 << 32)], Some(Broken::Expired)),
+        (
+            &[
+                (place + 5, 2_000_001),
+                (place + 2, 2_000_001),
+                (CLASSES, 2_000_001),
+                (CLASSES + 2, 2_000_002),
+            ],
+            Some(Broken::MostEntries),
+        ),
+        (&[(REGISTER + 6, 3)], Some(Broken::Published)),
+        (&[(REGISTER + 6, 3), (REGISTER + 7, 3)], None),
+        (&[(REGISTER + 8, 2)], Some(Broken::Flag)),
+        (&[(REGISTER + 9, 1)], Some(Broken::AbsentFloor)),
+        (&[(generation, 0)], Some(Broken::EmptyGeneration)),
+        (&[(generation, 3)], Some(Broken::Slots)),
+        (&[(generation + 1, 1 << 62)], Some(Broken::Load)),
+        (&[(generation + 3, 3)], Some(Broken::Position)),
+        (&[(generation + 4, 8)], Some(Broken::HeldNumber)),
+        (&[(generation + 5, 8)], Some(Broken::Reached)),
+        (&[(generation + 6 + 3, 12)], None),
+        (&[(generation + 6 + 4, 12)], Some(Broken::SlotsPast)),
+    ];
+    for (pokes, due) in cases {
+        let mut words = taken();
+        for (at, value) in pokes {
+            words[*at] = *value;
+        }
+        assert_eq!(rule(&words), due, "{pokes:?}");
+    }
+}
+
+#[test]
+fn refusals_come_in_their_order() {
+    let (settings, words) = (settings(), taken());
+    let number = |settings: &[u64], words: &[u64], call| refusal(settings, words, call).number();
+    let ask = |register, flag| Call::Ask {
+        register,
+        flag,
+        kind: 0,
+        number: 1,
+    };
+    assert_eq!(number(&settings, &words, ask(0, 1)), 0);
+    assert_eq!(number(&settings[1..], &words, ask(0, 1)), 1);
+    assert_eq!(number(&settings, &words[1..], ask(9, 2)), 1);
+    assert_eq!(number(&settings, &words[1..], ask(9, 1)), 2);
+    let mut other = settings;
+    other[9] = 2;
+    assert_eq!(number(&other, &words, ask(9, 1)), 3);
+    assert_eq!(number(&settings, &words, ask(1, 1)), 4);
+    assert_eq!(
+        number(
+            &settings,
+            &words,
+            Call::Dump {
+                register: 0,
+                out: 63
+            }
+        ),
+        5
+    );
+    assert_eq!(
+        number(
+            &settings,
+            &words,
+            Call::Dump {
+                register: 0,
+                out: 64
+            }
+        ),
+        0
+    );
+    let mut pending = words.clone();
+    pending[REGISTER + 10] = 1;
+    assert_eq!(
+        number(
+            &settings,
+            &pending,
+            Call::Dump {
+                register: 0,
+                out: 0
+            }
+        ),
+        6
+    );
+    assert_eq!(
+        number(
+            &settings,
+            &words,
+            Call::Restore {
+                register: 0,
+                bytes: &[0; 31]
+            }
+        ),
+        7
+    );
+    assert_eq!(
+        number(
+            &settings,
+            &words,
+            Call::Restore {
+                register: 0,
+                bytes: &[0; 32]
+            }
+        ),
+        0
+    );
+    let mut long = [0; 56];
+    long[8] = 1;
+    long[32..40].copy_from_slice(&((1u64 << 61) - 3).to_le_bytes());
+    assert_eq!(
+        number(
+            &settings,
+            &words,
+            Call::Restore {
+                register: 0,
+                bytes: &long
+            }
+        ),
+        7
+    );
+}
