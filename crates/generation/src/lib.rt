@@ -6,6 +6,7 @@ use crate::slots::slots_for;
 use model::Bucket;
 use model::Probe;
 use model::Room;
+use numbers::capped;
 ghost use mathlib.Core.Path.{_≡_};
 ghost use Prim.Native.Nat.{_≤_, _<_};
 ghost use lib.ListN.{length};
@@ -17,7 +18,6 @@ mod slots;
 mod sound;
 
 pub use slots::find;
-pub use slots::larger;
 pub use sound::is_sound;
 
 // The four words that lead a generation's run.
@@ -142,7 +142,7 @@ fn enter(part: &mut [u64], bucket: Bucket, fp: u64, stamp: u64)
     let n = head.slots as usize;
     let e = n + Generation::HEAD;
     let added = put(&mut part[Generation::HEAD..e], fp);
-    let newest = larger(head.newest, stamp);
+    let newest = capped::larger(head.newest, stamp);
     let next = Generation {
         slots: head.slots,
         held: head.held + added,

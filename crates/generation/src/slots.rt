@@ -1,9 +1,10 @@
 // The slots of a generation by themselves: each is a fingerprint, or 0 where it is empty.
 use crate::Generation;
 use model::Probe;
+use numbers::capped;
 ghost use mathlib.Core.Path.{_≡_};
 ghost use mathlib.Core.List.{_++_};
-ghost use Prim.Native.Nat.{_+_, _-_, _*_, _%_, _≤_, _<_, max};
+ghost use Prim.Native.Nat.{_+_, _-_, _*_, _%_, _≤_, _<_};
 ghost use lib.ListN.{length, take, drop, replicate};
 ghost use Rattle.model.specs.Generation.{next, probe, refill, grown};
 ghost use Rattle.generation.specs.Slots.{slots-after, put-again, Puts};
@@ -146,19 +147,9 @@ pub fn slots_for(known: bool, slots: u64, held: u64) -> u64
     ensures { λ r. ⌜ r ≡ slots-after known slots held ⌝ }
 {
     let most = 4 * (held + 1);
-    let mut n = larger(slots, Generation::LEAST);
+    let mut n = capped::larger(slots, Generation::LEAST);
     while 3 * n < most {
         n = 2 * n;
     }
     n
-}
-
-// The larger of two numbers.
-pub fn larger(a: u64, b: u64) -> u64
-    ensures { λ r. ⌜ r ≡ max a b ⌝ }
-{
-    if a < b {
-        return b;
-    }
-    a
 }

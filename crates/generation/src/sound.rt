@@ -2,25 +2,13 @@
 use crate::Generation;
 use crate::slots::find;
 use model::Probe;
+use numbers::bounds;
 ghost use mathlib.Core.Path.{_≡_};
 ghost use mathlib.Core.Bool.{cond};
 ghost use Prim.Native.Nat.{_≤_, _<_};
 ghost use lib.Dec.{eqb};
 ghost use lib.ListN.{length};
-ghost use Rattle.model.specs.Settings.{power-of-two};
 ghost use Rattle.model.specs.GenerationWords.{reached, slots-sound, filled-sound, generation-sound};
-
-// A power of two from 2 to 1,024.
-pub fn is_power(n: u64) -> bool
-    ensures { λ r. ⌜ r ≡ power-of-two n ⌝ }
-{
-    (n == 2)
-        | ((n == 4)
-            | ((n == 8)
-                | ((n == 16)
-                    | ((n == 32)
-                        | ((n == 64) | ((n == 128) | ((n == 256) | ((n == 512) | (n == 1024)))))))))
-}
 
 // 1 for a slot that is held, and 0 for an empty one.
 fn one_if_held(word: u64) -> u64
@@ -70,7 +58,7 @@ fn filled_sound(ring: u64, at: u64, slots: u64, held: u64, bucket: u64) -> bool
     requires { ⌜ (0 < ring) × (slots ≤ 1024) ⌝ }
     ensures { λ r. ⌜ r ≡ filled-sound ring at slots held bucket ⌝ }
 {
-    let power = is_power(slots);
+    let power = bounds::is_power_of_two(slots);
     power & ((1 <= held) & ((held <= 3 * slots / 4) & (bucket % ring == at)))
 }
 

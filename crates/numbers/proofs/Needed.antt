@@ -5,29 +5,17 @@ use native.Mathlib.Omega.{arith}
 use mathlib.Core.Path.{_≡_, refl, sym, _∙_, ap}
 use mathlib.Core.Bool.{Bool, true, false, cond, _&&_, _||_}
 use mathlib.Core.List.{List, [], _∷_}
-use lib.Dec.{leb, eqb}
-use borrow.Author.Tests.{leb-true, le-leb, lt-leb, eqb-true}
+use lib.Dec.{leb}
+use borrow.Author.Tests.{leb-true, le-leb, lt-leb}
 use Rattle.runs.proofs.Cases.{by-test, both-true, each-true}
 use Rattle.model.specs.declared.Usable.{Usable}
 use Rattle.model.specs.declared.Shares.{Shares}
 use Rattle.model.specs.declared.Settings.{Settings}
 use Rattle.model.specs.Numbers.{between}
 use Rattle.model.specs.Settings.{ring-of, power-of-two, window-fit, usable-fit, shares-fit, usable-at, fit-at, settings-fit, register-words, registers-words, words-for, book-words, words-needed}
+use Rattle.model.proofs.Bounds.{power-small}
 
 -- ---- bounds that settings in bounds have
-either : (a b : Bool) {P : Type 0} → (a || b) ≡ true → (a ≡ true → P) → (b ≡ true → P) → P
-either true b e f g = f refl
-either false b e f g = g e
-
-pub slots-few : (n : ℕ) → power-of-two n ≡ true → n ≤ 1_024
-unfolding power-of-two
-slots-few n t =
-    either _ _ t (λ e. let k = eqb-true n 2 e in omega arith) λ t. either _ _ t (λ e. let k = eqb-true n 4 e in omega arith) λ t.
-    either _ _ t (λ e. let k = eqb-true n 8 e in omega arith) λ t. either _ _ t (λ e. let k = eqb-true n 16 e in omega arith) λ t.
-    either _ _ t (λ e. let k = eqb-true n 32 e in omega arith) λ t. either _ _ t (λ e. let k = eqb-true n 64 e in omega arith) λ t.
-    either _ _ t (λ e. let k = eqb-true n 128 e in omega arith) λ t. either _ _ t (λ e. let k = eqb-true n 256 e in omega arith) λ t.
-    either _ _ t (λ e. let k = eqb-true n 512 e in omega arith) λ t. let k = eqb-true n 1_024 t in omega arith
-
 -- one register's
 pub record Few (u : Usable) : Type 0 where
   pub ring : ring-of u ≤ 256
@@ -39,7 +27,7 @@ unfolding usable-fit
 usable-few u fit =
     let p = each-true (window-fit (u .origin)) (window-fit (u .copy) ∷ between 1 60_000 (u .bucket) ∷ power-of-two (u .slots) ∷ leb (ring-of u) 256 ∷ []) fit in
     let r = leb-true (ring-of u) 256 (p .1 .1 .1 .1) in
-    let k = slots-few (u .slots) (p .1 .1 .1 .0) in
+    let k = power-small (u .slots) (p .1 .1 .1 .0) in
     let a : 3 * ring-of u ≤ 768 = omega arith in
     let b : u .slots + 4 ≤ 1_028 = omega arith in
     record { ring = r; slots = k; words = let m = mul-le-mul a b in omega (arith, m) }

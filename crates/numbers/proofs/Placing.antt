@@ -6,47 +6,18 @@ use native.Mathlib.Omega.{arith}
 use mathlib.Core.Path.{_≡_, refl, sym, _∙_, ap}
 use mathlib.Core.Bool.{Bool, true, false, cond, _&&_, _||_}
 use mathlib.Core.List.{List, [], _∷_}
-use lib.Dec.{leb}
-use borrow.Author.Tests.{leb-true, lt-leb}
-use Rattle.runs.proofs.Cases.{both-true, each-true}
 use Rattle.model.specs.declared.Class.{Class}
 use Rattle.model.specs.declared.Class.the-variants.{Feeders, Peers, Own}
 use Rattle.model.specs.declared.Usable.{Usable}
 use Rattle.model.specs.declared.Shares.{Shares}
 use Rattle.model.specs.declared.Settings.{Settings}
-use Rattle.model.specs.Numbers.{between}
-use Rattle.model.specs.Settings.{ring-of, usable-fit, shares-fit, usable-at, fit-at, settings-fit, register-words, registers-words, book-words, words-needed}
+use Rattle.model.specs.Settings.{ring-of, usable-fit, shares-fit, usable-at, settings-fit, register-words, registers-words, book-words, words-needed}
 use Rattle.model.specs.Class.{class-number}
 use Rattle.model.specs.Words.{class-width, class-start, ring-width, register-width, ring-start, after-registers, register-start}
+use Rattle.model.proofs.Bounds.{fit-shares, fit-usable}
+use Rattle.model.proofs.Words.{registers≤4}
+use Rattle.numbers.specs.Places.{RegisterAt}
 use Rattle.numbers.proofs.Needed.{Few, usable-few, FewPlaces, shares-few}
-
--- what settings in bounds give
-pub record Fit (s : Settings) : Type 0 where
-  pub least : 1 ≤ s .registers
-  pub most : s .registers ≤ 4
-  pub shares : shares-fit (s .shares) ≡ true
-  pub each : (r : ℕ) → r < s .registers → usable-fit (usable-at s r) ≡ true
-
-at-each : (s : Settings) → s .registers ≤ 4 → fit-at s 0 ≡ true → fit-at s 1 ≡ true → fit-at s 2 ≡ true → fit-at s 3 ≡ true
-    → (r : ℕ) → r < s .registers → usable-fit (usable-at s r) ≡ true
-at-each s m f0 f1 f2 f3 zero h = rw (lt-leb (s .registers) 0 h) at f0
-at-each s m f0 f1 f2 f3 (suc zero) h = rw (lt-leb (s .registers) 1 h) at f1
-at-each s m f0 f1 f2 f3 (suc (suc zero)) h = rw (lt-leb (s .registers) 2 h) at f2
-at-each s m f0 f1 f2 f3 (suc (suc (suc zero))) h = rw (lt-leb (s .registers) 3 h) at f3
-at-each s m f0 f1 f2 f3 (suc (suc (suc (suc r)))) h = absurd (omega arith)
-
-pub fit-of : (s : Settings) → settings-fit s ≡ true → Fit s
-unfolding settings-fit
-fit-of s fit =
-    let p = each-true (between 1 4 (s .registers)) (shares-fit (s .shares) ∷ fit-at s 0 ∷ fit-at s 1 ∷ fit-at s 2 ∷ fit-at s 3 ∷ []) fit in
-    let q = both-true (leb 1 (s .registers)) (leb (s .registers) 4) (p .0) in
-    let m = leb-true (s .registers) 4 (q .1) in
-    record {
-      least = leb-true 1 (s .registers) (q .0);
-      most = m;
-      shares = p .1 .0;
-      each = at-each s m (p .1 .1 .0) (p .1 .1 .1 .0) (p .1 .1 .1 .1 .0) (p .1 .1 .1 .1 .1);
-    }
 
 -- ---- a class in the book
 pub class-few : (b : Shares) → shares-fit b ≡ true → b .places * (2 * (b .pairs) + 4) ≤ 65_792
@@ -110,6 +81,32 @@ register-within s r m h =
     let z : 0 + r ≡ r = omega arith in
     let w = rw z at (after-within s 0 r (s .registers) h) in
     omega (arith, w, after-all s 0 (s .registers), book-is (s .shares))
+
+-- ---- settings in bounds need few words
+registers-few : (s : Settings) (r n : ℕ) → ((i : ℕ) → i < r + n → usable-fit (usable-at s i) ≡ true) → registers-words s r n ≤ n * 789_504
+unfolding registers-words register-words
+registers-few s r zero each = omega arith
+registers-few s r (suc n) each =
+    let k = registers-few s (suc r) n (λ i h. each i (omega arith)) in
+    let f = usable-few (usable-at s r) (each r (omega arith)) .words in
+    omega (arith, k, f)
+
+pub needed-few : (s : Settings) → settings-fit s ≡ true → words-needed s ≤ 3_355_520
+unfolding words-needed book-words
+needed-few s fit =
+    let m = registers≤4 s fit in
+    let k = registers-few s 0 (s .registers) (λ i h. fit-usable s i fit (omega arith)) in
+    let b = shares-few (s .shares) (fit-shares s fit) .words in
+    omega (arith, k, b)
+
+-- ---- a register's settings and place, as the code has them
+pub register-placed : (s : Settings) (r : ℕ) (u : Usable) (start width : ℕ) → settings-fit s ≡ true → u ≡ usable-at s r → start ≡ register-start s r
+    → start + register-width (usable-at s r) ≤ words-needed s → width ≡ register-width u
+    → RegisterAt s r (record { u = u; start = start; end = start + width })
+register-placed s r u start width fit usable from within wide =
+    let e : width ≡ register-width (usable-at s r) = rw (← usable) wide in
+    let m = needed-few s fit in
+    record { usable = usable; start = from; end = ap (λ (n : ℕ). start + n) e; within = omega arith; few = omega arith }
 
 -- ---- a class's number times a width, as the code has it
 pub number-few : (c : Class) → class-number c ≤ 2

@@ -11,6 +11,14 @@ ghost use mathlib.Core.Bool.{true};
 ghost use Prim.Native.Nat.{_+_, _*_, _<_, _≤_};
 ghost use Rattle.model.specs.Settings.{settings-fit, shares-fit, usable-fit, usable-at, words-needed};
 ghost use Rattle.model.specs.Words.{class-width as class-words, class-start as class-from, ring-width as ring-words, register-width as register-words, ring-start as ring-from, register-start as register-from};
+ghost use Rattle.numbers.specs.Places.{RegisterAt};
+
+// A register's settings, and where its words lie.
+pub struct Place {
+    pub u: Usable,
+    pub start: usize,
+    pub end: usize,
+}
 
 // The words that the settings need.
 pub fn needed(s: Settings) -> usize
@@ -82,4 +90,19 @@ pub fn register_start(s: Settings, register: usize) -> usize
         i += 1;
     }
     a
+}
+
+// Where a register lies.
+pub fn place_of(s: Settings, r: usize) -> Place
+    requires { ⌜ (settings-fit s ≡ true) × (r < s .registers) ⌝ }
+    ensures { λ p. ⌜ RegisterAt s r p ⌝ }
+{
+    let u = bounds::usable_in(s, r);
+    let start = register_start(s, r);
+    let width = register_width(u);
+    Place {
+        u: u,
+        start: start,
+        end: start + width,
+    }
 }

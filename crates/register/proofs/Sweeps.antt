@@ -1,9 +1,9 @@
--- A sweep, ring by ring: what goes does not depend on the floor, and the floor is raised by the newest that went. Assumes nothing.
+-- A sweep, ring by ring, and the three ways that a sweep takes. Assumes nothing.
 use Prim.Native.Nat.{ℕ, zero, suc, _-_, _≤_, _<_, max}
 use native.Mathlib.Omega.{arith}
 use mathlib.Core.Path.{_≡_, refl, sym, ap, _∙_}
 use mathlib.Core.Bool.{Bool, true, false, not}
-use mathlib.Core.Option.{Option, none, some}
+use mathlib.Core.Option.{none}
 use mathlib.Core.List.{List}
 use lib.Dec.{leb}
 use lib.ListN.{getD}
@@ -13,7 +13,6 @@ use Rattle.runs.proofs.Turns.{then-with}
 use Rattle.model.specs.declared.Class.{Class}
 use Rattle.model.specs.declared.Class.the-variants.{Feeders, Peers, Own}
 use Rattle.model.specs.declared.Usable.{Usable}
-use Rattle.model.specs.Numbers.{raise}
 use Rattle.model.specs.Settings.{ring-of}
 use Rattle.model.specs.Class.{pick}
 use Rattle.model.specs.Generation.{dropped}
@@ -23,47 +22,11 @@ use Rattle.model.proofs.Choice.{swap-cases}
 use Rattle.model.proofs.Growth.{dropped-ok}
 use Rattle.model.proofs.RingsKept.{RingOk, from-form, to-form, with-ok, sweep-ok}
 use Rattle.generation.specs.declared.Dropped.{Dropped}
-use Rattle.generation.specs.Rules.{went}
 use Rattle.ring.specs.Sweep.{swept-ring, swept-says, raised-by}
+use Rattle.ring.proofs.Sweeping.{sweep-floor}
 use Rattle.register.specs.Rules.{silent, raised-with, in-ring, swept-class}
 use Rattle.register.specs.Words.{RegisterWords, RegisterReads, RegisterTurns}
 use Rattle.register.proofs.InRings.{still-words}
-
--- ---- the floor apart from the ring
-raised-twice : (f : Option ℕ) (k : ℕ) (x : Option ℕ) → raised-by (went x) (raise f k) ≡ raised-by (went (raised-by (went x) (some k))) f
-unfolding raise
-raised-twice f k none = refl
-raised-twice none k (some m) = refl
-raised-twice (some n) k (some m) = let e : max (max n k) m ≡ max n (max k m) = omega arith in ap some e
-
--- from any floor: the same ring, and the floor raised by what an absent one would become
-pub record Apart (f : Option ℕ) (one bare : Swept) : Type 0 where
-  pub floor : one .floor ≡ raised-by (went (bare .floor)) f
-  pub ring : one .ring ≡ bare .ring
-
-abbrev from : Option ℕ → Ring → Swept
-from f ring = record { floor = f; ring = ring }
-
-visits-apart : (n through b : ℕ) (f : Option ℕ) (ring : Ring) → Apart f (visits n through b (from f ring)) (visits n through b (from none ring))
-unfolding visits visit raise
-visits-apart zero through b f ring = record { floor = refl; ring = refl }
-visits-apart (suc n) through b f ring =
-    let g = generation-at ring b in
-    by-test (passed through g)
-    (λ e.
-    let next = with-generation ring b (dropped g) in
-    let one = visits-apart n through (suc b) (raise f (g .newest)) next in
-    let bare = visits-apart n through (suc b) (some (g .newest)) next in
-    rw e (record {
-      floor = one .floor ∙ raised-twice f (g .newest) (visits n through (suc b) (from none next) .floor)
-          ∙ ap (λ (x : Option ℕ). raised-by (went x) f) (sym (bare .floor));
-      ring = one .ring ∙ sym (bare .ring);
-    }))
-    (λ e. rw e (visits-apart n through (suc b) f ring))
-
-pub sweep-apart : (a through : ℕ) (f : Option ℕ) (ring : Ring) → Apart f (sweep-ring a through f ring) (sweep-ring a through none ring)
-unfolding sweep-ring
-sweep-apart a through f ring = visits-apart (through - a) through a f ring
 
 -- ---- a swept ring is well formed
 module _ (u : Usable) where
@@ -81,7 +44,7 @@ module _ (u : Usable) where
 
   ring-ok : (a through : ℕ) (ring : Ring) → RingOk u ring → RingOk u (swept-ring a through ring)
   unfolding sweep-ring
-  ring-ok a through ring ok = visits-ok (through - a) through a (from none ring) ok
+  ring-ok a through ring ok = visits-ok (through - a) through a (record { floor = none; ring = ring }) ok
 
   in-ring-ok : (c : Class) (a through : ℕ) (reg : Register) → register-form u .Ok reg → register-form u .Ok (in-ring c (swept-ring a through) reg)
   in-ring-ok c a through reg ok =
@@ -113,17 +76,17 @@ module _ (u : Usable) where
   all-three a through reg =
       let one = sweep-ring a through (reg .floor) (reg .rings .of-feeders) in
       let two = sweep-ring a through (one .floor) (reg .rings .of-peers) in
-      let x = sweep-apart a through (reg .floor) (reg .rings .of-feeders) in
-      let y = sweep-apart a through (one .floor) (reg .rings .of-peers) in
-      let z = sweep-apart a through (two .floor) (reg .rings .of-own) in
+      let x = sweep-floor a through (reg .floor) (reg .rings .of-feeders) in
+      let y = sweep-floor a through (one .floor) (reg .rings .of-peers) in
+      let z = sweep-floor a through (two .floor) (reg .rings .of-own) in
       let high = ap (raised-by (swept-says a through (reg .rings .of-own)))
-      (ap (raised-by (swept-says a through (reg .rings .of-peers))) (sym (x .floor)) ∙ sym (y .floor)) ∙ sym (z .floor) in
+      (ap (raised-by (swept-says a through (reg .rings .of-peers))) (sym (x .1)) ∙ sym (y .1)) ∙ sym (z .1) in
       λ i. record {
         swept = through;
         floor = high i;
         pending = reg .pending;
         spare = reg .spare;
-        rings = record { of-feeders = sym (x .ring) i; of-peers = sym (y .ring) i; of-own = sym (z .ring) i };
+        rings = record { of-feeders = sym (x .0) i; of-peers = sym (y .0) i; of-own = sym (z .0) i };
       }
 
   pub rings-turns : (a through : ℕ) (ws one two three last : List ℕ)

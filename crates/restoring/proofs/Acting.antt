@@ -16,20 +16,12 @@ use Rattle.model.specs.Words.{State, state-form}
 use Rattle.model.specs.Calls.{no-register, register-at, with-register}
 use Rattle.model.proofs.RingsKept.{RegisterOk}
 use Rattle.model.proofs.SoundnessKept.{there, register-in, with-register-ok}
-use Rattle.register.specs.Words.{RegisterWords, RegisterTurns}
-use Rattle.taking.specs.declared.whole.Place.{Place as Theirs}
+use Rattle.numbers.specs.declared.starts.Place.{Place}
+use Rattle.numbers.specs.Places.{RegisterAt}
+use Rattle.register.specs.Words.{RegisterTurns}
 use Rattle.taking.specs.Words.{RunWords, StateTurns}
-use Rattle.taking.specs.Words.{RegisterAt as TheirAt}
-use Rattle.taking.proofs.InRun.{register-asks, register-turns, run-words}
-use Rattle.restoring.specs.declared.leaves.Place.{Place}
+use Rattle.taking.proofs.InRun.{register-turns, run-words}
 use Rattle.restoring.specs.Words.{put, Now, Acts}
-use Rattle.restoring.specs.Places.{RegisterAt}
-
-abbrev theirs : Place → Theirs
-theirs p = record { u = p .u; start = p .start; end = p .end }
-
-same-place : (s : Settings) (r : ℕ) (p : Place) → RegisterAt s r p → TheirAt s r (theirs p)
-same-place s r p l = record { usable = l .usable; start = l .start; end = l .end; within = l .within }
 
 module _ (s : Settings) (r : ℕ) (h : r < s .registers) where
   -- ---- the start: a state with its own register and its own book
@@ -59,9 +51,6 @@ module _ (s : Settings) (r : ℕ) (h : r < s .registers) where
 
   -- ---- a register's part
   module _ (p : Place) (l : RegisterAt s r p) (ws : List ℕ) where
-    pub place-asks : RunWords s ws → RegisterWords (p .u) (midOf (p .start) (p .end - p .start) ws)
-    place-asks w = register-asks s r h (theirs p) (same-place s r p l) ws w
-
     pub register-acts : {R : Type 0} (f : Register → Register) (out : Register → R) (last : List ℕ) (v : R)
         → ((reg : Register) → RegisterOk (usable-at s r) reg → RegisterOk (usable-at s r) (f reg))
         → RegisterTurns (p .u) f out (midOf (p .start) (p .end - p .start) ws) last v
@@ -69,7 +58,7 @@ module _ (s : Settings) (r : ℕ) (h : r < s .registers) where
     register-acts f out last v keeps turns = record {
       does = λ t reg k n.
           let x = put r reg k t in
-          let y = register-turns s r h (theirs p) (same-place s r p l) turns .does x (n .ok) (n .words) in
+          let y = register-turns s r h p l turns .does x (n .ok) (n .words) in
           let e : register-at r x ≡ reg = getD-set-same (t .registers) r reg no-register (n .there) in
           let q : with-register r (f (register-at r x)) x ≡ put r (f reg) k t =
           ap (λ (z : Register). with-register r (f z) x) e

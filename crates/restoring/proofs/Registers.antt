@@ -1,15 +1,12 @@
 -- What each leaf does to a register, and that it stays well formed. Assumes nothing.
-use Prim.Native.Nat.{ℕ, _+_, _-_, _<_, _≤_}
-use native.Mathlib.Omega.{arith}
+use Prim.Native.Nat.{ℕ, _-_, _<_, _≤_}
 use mathlib.Core.Path.{_≡_, refl, sym, ap, subst, _∙_}
 use mathlib.Core.Bool.{Bool, true, false}
 use mathlib.Core.List.{List, [], _∷_}
 use mathlib.Core.Option.{Option, none}
-use mathlib.Core.Logic.{inl, inr}
 use types.Run.{OneOf}
 use denote.Enum.Declared.{tagOf}
 use borrow.Rule.Slice.PartMut.{midOf, putMid}
-use Rattle.runs.proofs.Cases.{no}
 use Rattle.model.specs.RegisterWords.{register-form}
 use Rattle.model.proofs.Room.{the-type}
 use Rattle.model.specs.declared.Class.{Class}
@@ -17,41 +14,27 @@ use Rattle.model.specs.declared.Room.{Room}
 use Rattle.model.specs.declared.Room.the-variants.{At, Collides, Full as NoSlots}
 use Rattle.model.specs.declared.Settings.{Settings}
 use Rattle.model.specs.declared.Usable.{Usable}
-use Rattle.model.specs.Settings.{usable-at, settings-fit, words-needed}
+use Rattle.model.specs.Settings.{usable-at}
 use Rattle.model.specs.Class.{pick}
 use Rattle.model.specs.Generation.{as-read}
 use Rattle.model.specs.Register.{Ring, Register, with-floor, strike}
 use Rattle.model.specs.Judge.{make-room}
 use Rattle.model.specs.Dump.{drop-bucket, raised-to-dumped}
-use Rattle.model.specs.Words.{register-width, register-start}
 use Rattle.model.proofs.Choice.{swap-cases}
 use Rattle.model.proofs.Bounds.{fit-usable, slots-small}
 use Rattle.model.proofs.Judging.{read-positive}
 use Rattle.model.proofs.RingsKept.{RegisterOk, RingOk, strike-ok, drop-ok}
+use Rattle.numbers.specs.declared.starts.Place.{Place}
+use Rattle.numbers.specs.Places.{RegisterAt}
 use Rattle.register.specs.Rules.{failed-at, floor-gone, raised}
 use Rattle.register.specs.Rules.{silent as silent-register}
 use Rattle.register.specs.Words.{RegisterReads, RegisterTurns}
 use Rattle.taking.specs.Words.{RunWords}
+use Rattle.taking.proofs.Taking.{not-at}
 use Rattle.restoring.specs.declared.heads.Head.{Head}
-use Rattle.restoring.specs.declared.leaves.Place.{Place}
-use Rattle.restoring.specs.Places.{RegisterAt}
 use Rattle.restoring.specs.Rules.{silent, room-in, fits-in, held-at, held-in}
 use Rattle.restoring.specs.Words.{Acts}
 use Rattle.restoring.proofs.Acting.{register-acts, acts-words}
-
-pub at-place : (s : Settings) (r : ℕ) (u : Usable) (start width : ℕ) → u ≡ usable-at s r → start ≡ register-start s r
-    → start + register-width (usable-at s r) ≤ words-needed s → width ≡ register-width u
-    → RegisterAt s r (record { u = u; start = start; end = start + width })
-at-place s r u start width usable from within wide =
-    let e : width ≡ register-width (usable-at s r) = rw (← usable) wide in
-    record { usable = usable; start = from; end = ap (λ (n : ℕ). start + n) e; within = omega arith }
-
--- of the three rooms the second and the third are no position
-pub not-at : (m : Room) → OneOf (1 ∷ 2 ∷ []) (tagOf the-type m) → (i : ℕ) → m ≡ At i → ⊥
-not-at (At j) (inl z) i e = no z
-not-at (At j) (inr z) i e = let n : _≡_ {A = ℕ} 0 2 = z in omega arith
-not-at Collides o i e = no (cc)
-not-at NoSlots o i e = no (cc)
 
 -- ---- a fingerprint
 module _ (u : Usable) (h : Head) (fp : ℕ) where

@@ -1,12 +1,11 @@
 -- A restored draw, and one given back, said of a register and a book. Assumes nothing.
 use Prim.Native.Nat.{ℕ, _+_, _-_, _<_, _≤_}
 use mathlib.Core.Path.{_≡_, refl, sym, ap, subst, _∙_}
-use mathlib.Core.Bool.{Bool, true, false, cond}
+use mathlib.Core.Bool.{Bool, false, cond}
 use mathlib.Core.List.{List}
 use borrow.Rule.Slice.PartMut.{midOf, putMid}
 use Rattle.runs.specs.Turns.{Reads}
 use Rattle.runs.proofs.Cases.{by-test}
-use Rattle.runs.proofs.Turns.{part-reads}
 use Rattle.model.specs.declared.Class.{Class}
 use Rattle.model.specs.declared.Class.the-variants.{Feeders, Peers, Own}
 use Rattle.model.specs.declared.Deliverer.the-variants.{Restored}
@@ -14,18 +13,18 @@ use Rattle.model.specs.declared.Draw.{Draw}
 use Rattle.model.specs.declared.Limits.{Limits}
 use Rattle.model.specs.declared.Settings.{Settings}
 use Rattle.model.specs.declared.Shares.{Shares}
-use Rattle.model.specs.Settings.{usable-at, limits-fit}
+use Rattle.model.specs.Settings.{usable-at}
 use Rattle.model.specs.Class.{Each, pick, swap, class-of}
 use Rattle.model.specs.Numbers.{top32}
 use Rattle.model.specs.Book.{Book, Held, granted, draw-test, draw-says, drawn, undrawn, second-of}
-use Rattle.model.specs.Words.{State, state-form, FrontOk, encode-front, class-width, class-start}
-use Rattle.model.proofs.Parts.{front-part}
+use Rattle.model.specs.Words.{state-form, FrontOk, encode-front, class-width, class-start}
 use Rattle.model.proofs.Bounds.{fit-shares}
 use Rattle.model.proofs.BookKept.{BookOk, pairs-some, second-short, drawn-ok, undrawn-ok}
 use Rattle.model.proofs.SoundnessKept.{book-in, with-book-ok}
 use Rattle.book.specs.ClassRules.{ClassIs, ClassTurns, drawn-class, returned}
 use Rattle.taking.specs.Words.{RunWords}
 use Rattle.taking.proofs.InRun.{class-asks, class-turns}
+use Rattle.taking.proofs.Draws.{limits-says, closed-says}
 use Rattle.restoring.specs.declared.heads.Head.{Head}
 use Rattle.restoring.specs.Rules.{Suits, silent, may-draw, drawn-if}
 use Rattle.restoring.specs.Words.{put, Now, Acts}
@@ -56,15 +55,6 @@ module _ (s : Settings) (r : ℕ) (q : r < s .registers) (h : Head) (ws : List �
 
   module _ (limits : Limits) (closed : Bool) (l : Reads (encode-front s) FrontOk (λ f. f .limits) (midOf 0 (20 - 0) ws) limits)
       (c : Reads (encode-front s) FrontOk (λ f. f .closed) (midOf 0 (20 - 0) ws) closed) where
-    limits-says : (t : State) → state-form s .Ok t → ws ≡ state-form s .enc t → limits ≡ t .book .limits
-    limits-says t ok is = part-reads (front-part s .lies) 0 20 refl refl l .says t ok is
-
-    closed-says : (t : State) → state-form s .Ok t → ws ≡ state-form s .enc t → closed ≡ t .book .closed
-    closed-says t ok is = part-reads (front-part s .lies) 0 20 refl refl c .says t ok is
-
-    pub limits-fine : limits-fit limits ≡ true
-    limits-fine = ap limits-fit (limits-says (w .is .value) (w .is .ok) (w .is .words)) ∙ w .is .ok .0 .limits
-
     -- the class after the draw, in its book
     drawn-is : (k : Book) → limits ≡ k .limits → closed ≡ k .closed
         → record { limits = k .limits; closed = k .closed; classes = swap (h .class) (drawn-class (s .shares) limits closed (Restored (h .class)) (h .second .0) (pick (h .class) (k .classes))) (k .classes) }
@@ -96,8 +86,8 @@ module _ (s : Settings) (r : ℕ) (q : r < s .registers) (h : Head) (ws : List �
         let acts : Acts s r (λ reg k. reg) (λ reg k. drawn-if (s .shares) h k) (λ reg k. may-draw (s .shares) h k) ws (putMid a (e - a) ws last) v = record {
           does = λ x reg k n.
               let y = class-turns s (h .class) a e start end t .does (put r reg k x) (n .ok) (n .words) in
-              let m = limits-says (put r reg k x) (n .ok) (n .words) in
-              let o = closed-says (put r reg k x) (n .ok) (n .words) in
+              let m = limits-says s ws w limits closed l c (put r reg k x) (n .ok) (n .words) in
+              let o = closed-says s ws w limits closed l c (put r reg k x) (n .ok) (n .words) in
               let b = drawn-fine u k (book-in s (put r reg k x) (n .ok)) in (
                 record {
                   there = n .there;

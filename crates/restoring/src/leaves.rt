@@ -6,15 +6,13 @@ use model::Deliverer;
 use model::Room;
 use model::Settings;
 use model::Usable;
-use numbers::bounds;
 use numbers::spans;
 use numbers::starts;
-ghost use mathlib.Core.Path.{_≡_};
 ghost use mathlib.Core.Bool.{true};
 ghost use mathlib.Core.Option.{none};
 ghost use Prim.Native.Nat.{_<_, _≤_, _+_};
 ghost use Rattle.model.specs.Numbers.{raise};
-ghost use Rattle.model.specs.Settings.{settings-fit, usable-at};
+ghost use Rattle.model.specs.Settings.{usable-at};
 ghost use Rattle.model.specs.Numbers.{top32};
 ghost use Rattle.model.specs.declared.Deliverer.the-variants.{Restored};
 ghost use Rattle.model.specs.Book.{undrawn};
@@ -25,28 +23,6 @@ ghost use Rattle.register.specs.Words.{RegisterWords, RegisterTurns};
 ghost use Rattle.taking.specs.Words.{RunWords};
 ghost use Rattle.restoring.specs.Rules.{Suits, silent, room-in, fits-in, held-in, may-draw, drawn-if};
 ghost use Rattle.restoring.specs.Words.{Acts};
-ghost use Rattle.restoring.specs.Places.{RegisterAt};
-
-// A register's settings, and where its words lie.
-pub struct Place {
-    pub u: Usable,
-    pub start: usize,
-    pub end: usize,
-}
-
-fn place_of(s: Settings, r: usize) -> Place
-    requires { ⌜ (settings-fit s ≡ true) × (r < s .registers) ⌝ }
-    ensures { λ p. ⌜ RegisterAt s r p ⌝ }
-{
-    let u = bounds::usable_in(s, r);
-    let start = starts::register_start(s, r);
-    let width = starts::register_width(u);
-    Place {
-        u: u,
-        start: start,
-        end: start + width,
-    }
-}
 
 // A fingerprint in a register's own words: struck where there is room for it.
 fn hold_in(part: &mut [u64], u: Usable, h: Head, fp: u64) -> bool
@@ -68,7 +44,7 @@ pub fn hold(run: &mut [u64], s: Settings, r: usize, h: Head, fp: u64) -> bool
     requires { ⌜ RunWords s (now run) × (r < s .registers) ⌝ }
     ensures { λ v. ⌜ RunWords s (now (run .exit)) × Acts s r (λ reg k. held-in (usable-at s r) h fp reg) (λ reg k. k) (λ reg k. fits-in (room-in (usable-at s r) h fp reg)) (now (run .entry)) (now (run .exit)) v ⌝ }
 {
-    let at = place_of(s, r);
+    let at = starts::place_of(s, r);
     let a = at.start;
     let e = at.end;
     hold_in(&mut run[a..e], at.u, h, fp)
@@ -79,7 +55,7 @@ pub fn fail(run: &mut [u64], s: Settings, r: usize, h: Head)
     requires { ⌜ RunWords s (now run) × (r < s .registers) ⌝ }
     ensures { λ _. ⌜ RunWords s (now (run .exit)) × Acts s r (λ reg k. failed-at (h .class) (h .bucket .0) (h .newest) reg) (λ reg k. k) silent (now (run .entry)) (now (run .exit)) (tt {0}) ⌝ }
 {
-    let at = place_of(s, r);
+    let at = starts::place_of(s, r);
     let a = at.start;
     let e = at.end;
     let class = h.class;
@@ -92,7 +68,7 @@ pub fn raise_to_dumped(run: &mut [u64], s: Settings, r: usize, floor: u64)
     requires { ⌜ RunWords s (now run) × (r < s .registers) ⌝ }
     ensures { λ _. ⌜ RunWords s (now (run .exit)) × Acts s r (λ reg k. raised-to-dumped floor reg) (λ reg k. k) silent (now (run .entry)) (now (run .exit)) (tt {0}) ⌝ }
 {
-    let at = place_of(s, r);
+    let at = starts::place_of(s, r);
     let a = at.start;
     let e = at.end;
     register::raise_to_dumped(&mut run[a..e], floor);
@@ -103,7 +79,7 @@ pub fn forget_floor(run: &mut [u64], s: Settings, r: usize)
     requires { ⌜ RunWords s (now run) × (r < s .registers) ⌝ }
     ensures { λ _. ⌜ RunWords s (now (run .exit)) × Acts s r (λ reg k. floor-gone reg) (λ reg k. k) silent (now (run .entry)) (now (run .exit)) (tt {0}) ⌝ }
 {
-    let at = place_of(s, r);
+    let at = starts::place_of(s, r);
     let a = at.start;
     let e = at.end;
     register::forget_floor(&mut run[a..e]);
@@ -114,7 +90,7 @@ pub fn raise_floor(run: &mut [u64], s: Settings, r: usize, stamp: u64)
     requires { ⌜ RunWords s (now run) × (r < s .registers) ⌝ }
     ensures { λ _. ⌜ RunWords s (now (run .exit)) × Acts s r (λ reg k. raised stamp reg) (λ reg k. k) silent (now (run .entry)) (now (run .exit)) (tt {0}) ⌝ }
 {
-    let at = place_of(s, r);
+    let at = starts::place_of(s, r);
     let a = at.start;
     let e = at.end;
     register::raise_floor(&mut run[a..e], stamp);

@@ -4,6 +4,7 @@ use generation::Dropped;
 use generation::Generation;
 use model::Bucket;
 use model::Room;
+use numbers::capped;
 ghost use mathlib.Core.Path.{_≡_};
 ghost use Prim.Native.Nat.{_≤_, _<_};
 ghost use Rattle.runs.specs.Combine.{testAll};
@@ -108,7 +109,7 @@ fn newest(first: Dropped, second: Dropped) -> Dropped
         Dropped::Nothing => second,
         Dropped::Newest(n) => match second {
             Dropped::Nothing => first,
-            Dropped::Newest(m) => Dropped::Newest(generation::larger(n, m)),
+            Dropped::Newest(m) => Dropped::Newest(capped::larger(n, m)),
         },
     }
 }

@@ -20,7 +20,7 @@ use Rattle.model.specs.BookWords.{class-form}
 use Rattle.model.specs.Words.{State, state-form, class-start, class-width}
 use Rattle.model.specs.Calls.{Call, settings-words-fit, codes-fit, step, refused, reply, held-in}
 use Rattle.model.proofs.Parts.{class-part}
-use Rattle.numbers.proofs.Placing.{fit-of}
+use Rattle.model.proofs.Bounds.{fit-shares}
 use Rattle.book.specs.ClassRules.{ClassIs, ClassReads}
 use Rattle.book.proofs.Finding.{class-is}
 use Rattle.strikes.specs.declared.Span.{Span}
@@ -59,7 +59,7 @@ module _ (st ws : List ℕ) (call : Call) (on : OnBook call) (n : ℕ) (e : n �
           let h : p .start ≡ 0 + class-start s c = let a = at .start in omega arith in
           let is = part-is (lent-part s k (class-part s c) .lies) (p .start) (p .end) h ends (record { value = lent s ws; ok = reads-in .0 .ok; words = reads-in .0 .words }) in
           subst (λ (b : Shares). ClassIs b c (midOf (p .start) (p .end - p .start) ws)) (sym (at .shares))
-          (class-is (s .shares) c (midOf (p .start) (p .end - p .start) ws) (fit-of s (reads-in .0 .fit) .shares) is)
+          (class-is (s .shares) c (midOf (p .start) (p .end - p .start) ws) (fit-shares s (reads-in .0 .fit)) is)
 
       -- the four totals are there
       pub totals-there : 4 ≤ length (midOf (p .start) (p .end - p .start) ws)

@@ -19,12 +19,12 @@ use Rattle.model.specs.Words.{State, register-start}
 use Rattle.model.specs.Dump.{dump-bytes}
 use Rattle.model.specs.Calls.{DumpTo, Call, On, Late, late-deed, deed-fits, done-on, step, refused, reply, output-of, dumped-by, output-after, written-over, Refusal, refusal, first-met, register-at, held-in}
 use Rattle.model.proofs.Parts.{register-part}
+use Rattle.numbers.specs.declared.starts.Place.{Place}
+use Rattle.numbers.specs.Places.{RegisterAt}
 use Rattle.register.specs.Words.{RegisterWords, RegisterReads}
 use Rattle.dumping.specs.Dumps.{Holds, Dumps}
-use Rattle.strikes.specs.declared.Place.{Place}
 use Rattle.strikes.specs.Admitted.{admits, dump-refusal}
 use Rattle.strikes.specs.Calls.{ToldBytes}
-use Rattle.strikes.specs.Places.{PlaceAt}
 use Rattle.strikes.proofs.Through.{seen-part, replied}
 use Rattle.strikes.proofs.Admitting.{late-refusals, refused-early, Admitted}
 use Rattle.strikes.proofs.OnRegister.{enters}
@@ -84,7 +84,7 @@ module _ (st ws : List ℕ) (r : ℕ) (out : List ℕ) where
     pub dump-refused-early : (n ≡ 0 → ⊥) → ToldBytes st ws (On r (DumpTo out)) (Refused n) out
     dump-refused-early h = refusing n (refused-early st ws r (DumpTo out) n (sym e) h) h
 
-    module _ (z : n ≡ 0) (p : Place) (at : PlaceAt (settings-of st) r p) where
+    module _ (z : n ≡ 0) (p : Place) (at : RegisterAt (settings-of st) r p) where
       abbrev part : List ℕ
       part = midOf (p .start) (p .end - p .start) ws
 
@@ -96,7 +96,7 @@ module _ (st ws : List ℕ) (r : ℕ) (out : List ℕ) where
       seen f v reads =
           let s = settings-of st in
           let t = subst (λ (u : Usable). RegisterReads u f part v) (at .usable) reads in
-          let a = rw (at .usable) at (at .end) in
+          let a = at .end in
           let ends : p .end ≡ p .start + register-form (usable-at s r) .wide = omega arith in
           seen-part s ws (held .may) (register-at r) (register-part s r (held .there)) (p .start) (p .end) (at .start) ends t
 

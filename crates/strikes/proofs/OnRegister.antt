@@ -15,11 +15,11 @@ use Rattle.model.specs.RegisterWords.{register-form}
 use Rattle.model.specs.Words.{State, state-form, register-start}
 use Rattle.model.specs.Calls.{Deed, Call, On, Late, never-late, late-deed, deed-fits, done-on, step, refused, reply, after, first-met, register-at, with-register, held-in}
 use Rattle.model.proofs.Parts.{register-part}
+use Rattle.numbers.specs.declared.starts.Place.{Place}
+use Rattle.numbers.specs.Places.{RegisterAt}
 use Rattle.register.specs.Words.{RegisterWords, RegisterReads, RegisterTurns}
-use Rattle.strikes.specs.declared.Place.{Place}
 use Rattle.strikes.specs.Admitted.{admits}
 use Rattle.strikes.specs.Calls.{Told}
-use Rattle.strikes.specs.Places.{PlaceAt}
 use Rattle.strikes.proofs.Through.{Entered, refused-reply, through-part, read-part, replied}
 use Rattle.strikes.proofs.Admitting.{late-refusals, refused-early, Admitted, admitted}
 use Rattle.strikes.proofs.Placed.{register-lies}
@@ -33,7 +33,7 @@ module _ (st ws : List ℕ) (r : ℕ) (deed : Deed) (n : ℕ) (e : n ≡ admits 
     pub enters : Admitted st ws r deed
     enters = admitted st ws r deed (sym e ∙ z)
 
-    module _ (p : Place) (at : PlaceAt (settings-of st) r p) where
+    module _ (p : Place) (at : RegisterAt (settings-of st) r p) where
       pub words-there : RegisterWords (p .u) (midOf (p .start) (p .end - p .start) ws)
       words-there = register-lies (settings-of st) ws r p (enters .may) (enters .there) at
 
@@ -44,7 +44,7 @@ module _ (st ws : List ℕ) (r : ℕ) (deed : Deed) (n : ℕ) (e : n ≡ admits 
       starts = at .start
 
       ends : p .end ≡ p .start + register-form (usable-at (settings-of st) r) .wide
-      ends = let a = rw (at .usable) at (at .end) in omega arith
+      ends = let a = at .end in omega arith
 
       -- a deed that nothing else refuses
       module _ (never : (reg : Register) → late-deed reg deed ≡ never-late) where

@@ -10,6 +10,7 @@ use model::Usable;
 use numbers::bounds;
 use numbers::codes;
 use numbers::starts;
+use numbers::starts::Place;
 use register::Ask;
 ghost use mathlib.Core.Path.{_≡_};
 ghost use mathlib.Core.Bool.{Bool, true, _&&_};
@@ -19,18 +20,12 @@ ghost use Rattle.model.specs.Settings.{settings-of};
 ghost use Rattle.model.specs.Class.{deliverer-fits};
 ghost use Rattle.model.specs.Codes.{flag-fits};
 ghost use Rattle.model.specs.Calls.{settings-words-fit, ask-of as ask-read, judged, judged-batch, taken, taken-batch, On, Open, Close, Expire, SetLimits, HeldBy, ClassTotals, Begin, Sweep, ContainsHash, DumpTo, Restore, Resume, Floor, Pending, SweptBucket, yes-no, reply};
+ghost use Rattle.numbers.specs.Places.{RegisterAt};
 ghost use Rattle.register.specs.Rules.{asked-by};
 ghost use Rattle.register.specs.Words.{RegisterWords, RegisterReads};
 ghost use Rattle.strikes.specs.Admitted.{vets, admits, opens, dump-refusal};
 ghost use Rattle.strikes.specs.Calls.{asking, Told, ToldBytes, restore-answer};
-ghost use Rattle.strikes.specs.Places.{PlaceAt, SpanAt};
-
-// A register's settings, and where its words lie.
-pub struct Place {
-    pub u: Usable,
-    pub start: usize,
-    pub end: usize,
-}
+ghost use Rattle.strikes.specs.Places.{SpanAt};
 
 // The share book's settings, and where a class's words lie.
 pub struct Span {
@@ -42,18 +37,10 @@ pub struct Span {
 // Where a register below R lies, under settings that are in bounds.
 fn place_of(settings: &[u64], register: u64) -> Place
     requires { ⌜ (settings-words-fit (now settings) ≡ true) × (register < settings-of (now settings) .registers) ⌝ }
-    ensures { λ p. ⌜ PlaceAt (settings-of (now (settings .entry))) register p ⌝ }
+    ensures { λ p. ⌜ RegisterAt (settings-of (now (settings .entry))) register p ⌝ }
 {
     let s = bounds::settings_of(settings);
-    let r = register as usize;
-    let u = bounds::usable_in(s, r);
-    let start = starts::register_start(s, r);
-    let width = starts::register_width(u);
-    Place {
-        u: u,
-        start: start,
-        end: start + width,
-    }
+    starts::place_of(s, register as usize)
 }
 
 // The codes that a ticket brings are listed.

@@ -13,13 +13,14 @@ use Rattle.model.specs.Class.{class-of, pick}
 use Rattle.model.specs.Register.{strike, published}
 use Rattle.model.specs.Judge.{Ask, make-room}
 use Rattle.model.specs.Calls.{register-at, with-register}
+use Rattle.numbers.specs.declared.starts.Place.{Place}
+use Rattle.numbers.specs.Places.{RegisterAt}
 use Rattle.register.specs.Rules.{judged-register, judge-says, batch-register, batch-says}
 use Rattle.register.specs.Rules.{silent as silent-register}
 use Rattle.register.specs.Words.{RegisterReads, RegisterTurns}
 use Rattle.taking.specs.declared.tickets.Ticket.{Ticket}
-use Rattle.taking.specs.declared.whole.Place.{Place}
 use Rattle.taking.specs.Rules.{silent, room-for, struck-by, judged-state, judged-says, batch-judged-state, batch-judged-says}
-use Rattle.taking.specs.Words.{StateReads, StateTurns, RunWords, RegisterAt}
+use Rattle.taking.specs.Words.{StateReads, StateTurns, RunWords}
 use Rattle.taking.proofs.InRun.{register-reads, register-turns, register-known}
 
 module _ (s : Settings) (r : ℕ) (h : r < s .registers) (p : Place) (l : RegisterAt s r p) (ws : List ℕ) where

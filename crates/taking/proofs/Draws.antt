@@ -44,26 +44,30 @@ module _ (b : Shares) (who : Deliverer) (sec : ℕ) (ws : List ℕ) (spot : Spot
         λ i. record { spot = x i; granted = z i };
   }
 
+-- ---- the limits and the closing, read of the front
+module _ (s : Settings) (ws : List ℕ) (w : RunWords s ws) (limits : Limits) (closed : Bool)
+    (l : Reads (encode-front s) FrontOk (λ f. f .limits) (midOf 0 (20 - 0) ws) limits)
+    (c : Reads (encode-front s) FrontOk (λ f. f .closed) (midOf 0 (20 - 0) ws) closed) where
+  pub limits-says : (t : State) → state-form s .Ok t → ws ≡ state-form s .enc t → limits ≡ t .book .limits
+  limits-says t ok is = part-reads (front-part s .lies) 0 20 refl refl l .says t ok is
+
+  pub closed-says : (t : State) → state-form s .Ok t → ws ≡ state-form s .enc t → closed ≡ t .book .closed
+  closed-says t ok is = part-reads (front-part s .lies) 0 20 refl refl c .says t ok is
+
+  pub limits-are-fit : limits-fit limits ≡ true
+  limits-are-fit = ap limits-fit (limits-says (w .is .value) (w .is .ok) (w .is .words)) ∙ w .is .ok .0 .limits
+
 -- ---- in the run
 module _ (s : Settings) (k : Ticket) (ws : List ℕ) (w : RunWords s ws) where
   module _ (limits : Limits) (closed : Bool) (l : Reads (encode-front s) FrontOk (λ f. f .limits) (midOf 0 (20 - 0) ws) limits)
       (c : Reads (encode-front s) FrontOk (λ f. f .closed) (midOf 0 (20 - 0) ws) closed) where
-    limits-says : (t : State) → state-form s .Ok t → ws ≡ state-form s .enc t → limits ≡ t .book .limits
-    limits-says t ok is = part-reads (front-part s .lies) 0 20 refl refl l .says t ok is
-
-    closed-says : (t : State) → state-form s .Ok t → ws ≡ state-form s .enc t → closed ≡ t .book .closed
-    closed-says t ok is = part-reads (front-part s .lies) 0 20 refl refl c .says t ok is
-
-    pub limits-are-fit : limits-fit limits ≡ true
-    limits-are-fit = ap limits-fit (limits-says (w .is .value) (w .is .ok) (w .is .words)) ∙ w .is .ok .0 .limits
-
     pub look-reads : (a e : ℕ) (start : a ≡ class-start s (class-of (k .who))) (end : e ≡ a + class-width (s .shares)) (v : Share)
         → ClassReads (s .shares) (class-of (k .who)) (λ h. share-in (s .shares) limits closed (k .who) (k .second .0) (h .places)) (midOf a (e - a) ws) v
         → StateReads s (share-for s k) ws v
     look-reads a e start end v t = record {
       says = λ x ok is.
           class-reads s (class-of (k .who)) a e start end t .says x ok is
-          ∙ rw (limits-says x ok is, closed-says x ok is);
+          ∙ rw (limits-says s ws w limits closed l c x ok is, closed-says s ws w limits closed l c x ok is);
     }
 
   -- ---- entered

@@ -1,9 +1,8 @@
 -- A register and a class's share book within the whole run: what is read there is read of the state, and what is done there is
 -- done to it. Assumes nothing.
-use Prim.Native.Nat.{ℕ, zero, suc, _+_, _-_, _*_, _≤_, _<_}
+use Prim.Native.Nat.{ℕ, _+_, _-_, _≤_, _<_}
 use native.Mathlib.Omega.{arith}
 use mathlib.Core.Path.{_≡_, sym, ap, _∙_}
-use mathlib.Core.Bool.{true}
 use mathlib.Core.List.{List}
 use lib.ListN.{length}
 use borrow.Rule.Slice.PartMut.{midOf, putMid, mid-len}
@@ -12,29 +11,28 @@ use Rattle.runs.specs.Turns.{Reads, Turns}
 use Rattle.runs.proofs.Turns.{part-is, part-reads, part-turns, lies-at}
 use Rattle.model.specs.declared.Class.{Class}
 use Rattle.model.specs.declared.Settings.{Settings}
-use Rattle.model.specs.declared.Usable.{Usable}
-use Rattle.model.specs.Settings.{usable-at, settings-fit, words-needed}
+use Rattle.model.specs.Settings.{usable-at, words-needed}
 use Rattle.model.specs.Class.{pick}
 use Rattle.model.specs.Book.{Held}
 use Rattle.model.specs.Register.{Register}
 use Rattle.model.specs.Judge.{Ask, judge, judge-batch}
 use Rattle.model.specs.BookWords.{class-form}
 use Rattle.model.specs.RegisterWords.{register-form}
-use Rattle.model.specs.Words.{State, state-form, class-width, class-start, register-width, after-registers, register-start}
+use Rattle.model.specs.Words.{State, state-form, class-width, class-start, register-width}
 use Rattle.model.specs.Calls.{register-at, with-register}
-use Rattle.model.proofs.Words.{ring-exact, state-exact, state-wide, registers≤4}
+use Rattle.model.proofs.Words.{ring-exact, state-exact, state-wide}
 use Rattle.model.proofs.BookWords.{class-exact}
 use Rattle.model.proofs.Parts.{with-class, class-part, register-part}
 use Rattle.model.proofs.Bounds.{fit-shares, fit-usable}
-use Rattle.numbers.proofs.Placing.{class-few, ring-few, after-more}
+use Rattle.numbers.specs.declared.starts.Place.{Place}
+use Rattle.numbers.specs.Places.{RegisterAt}
 use Rattle.model.proofs.SoundnessKept.{register-in, with-register-ok}
 use Rattle.model.proofs.Judging.{judge-ok}
 use Rattle.model.proofs.RegisterWords.{register-exact}
 use Rattle.register.specs.Words.{RegisterWords, RegisterReads, RegisterTurns}
 use Rattle.book.specs.ClassRules.{ClassIs, ClassReads, ClassTurns}
 use Rattle.book.proofs.Finding.{class-is}
-use Rattle.taking.specs.declared.whole.Place.{Place}
-use Rattle.taking.specs.Words.{StateReads, StateTurns, RunWords, RegisterAt}
+use Rattle.taking.specs.Words.{StateReads, StateTurns, RunWords}
 
 -- words hold one value alone: what is so of it is read of them
 pub known : {A R : Type 0} {F : Form A} → Exact F → (x : A) → F .Ok x → (ws : List ℕ) → ws ≡ F .enc x → (out : A → R) → (r : R) → r ≡ out x
@@ -63,30 +61,6 @@ module _ (s : Settings) where
       record { fit = w .fit; long = k; least = omega arith; is = record { value = t; ok = ok; words = is } }
 
   -- ---- a register
-  before-few : settings-fit s ≡ true → (r : ℕ) → r ≤ s .registers → after-registers s 0 r ≤ r * 789_528
-  unfolding after-registers
-  before-few fit zero h = omega arith
-  before-few fit (suc r) h =
-      let z : 0 + r ≡ r = omega arith in
-      let m = rw z at (after-more s 0 r) in
-      let f = ring-few (usable-at s r) (fit-usable s r fit (omega arith)) in
-      let i = before-few fit r (omega arith) in
-      omega (arith, m, f, i)
-
-  pub end-few : (r start width : ℕ) → settings-fit s ≡ true → r < s .registers → start ≡ register-start s r → width ≤ 789_528 → start + width ≤ 10_000_000
-  end-few r start width fit h from wide =
-      let c = class-few (s .shares) (fit-shares s fit) in
-      let b = before-few fit r (omega arith) in
-      let l = registers≤4 s fit in
-      omega (arith, c, b, l)
-
-  pub place-is : (r : ℕ) (u : Usable) (start width : ℕ) → u ≡ usable-at s r → start ≡ register-start s r
-      → start + register-width (usable-at s r) ≤ words-needed s → width ≡ register-width u
-      → RegisterAt s r (record { u = u; start = start; end = start + width })
-  place-is r u start width usable from within wide =
-      let e : width ≡ register-width (usable-at s r) = rw (← usable) wide in
-      record { usable = usable; start = from; end = ap (λ (n : ℕ). start + n) e; within = omega arith }
-
   module _ (r : ℕ) (h : r < s .registers) (p : Place) (l : RegisterAt s r p) where
     ends : p .end ≡ p .start + register-form (usable-at s r) .wide
     ends = let e = l .end in omega arith

@@ -1,14 +1,13 @@
 -- The whole run of words as the functions of this crate take it.
-use Prim.Native.Nat.{ℕ, _+_, _≤_}
+use Prim.Native.Nat.{ℕ, _≤_}
 use mathlib.Core.Path.{_≡_}
 use mathlib.Core.Bool.{true}
 use mathlib.Core.List.{List}
 use lib.ListN.{length}
 use Rattle.runs.specs.Turns.{Is, Reads, Turns}
 use Rattle.model.specs.declared.Settings.{Settings}
-use Rattle.model.specs.Settings.{usable-at, settings-fit, words-needed}
-use Rattle.model.specs.Words.{State, state-form, register-width, register-start}
-use Rattle.taking.specs.declared.whole.Place.{Place}
+use Rattle.model.specs.Settings.{settings-fit, words-needed}
+use Rattle.model.specs.Words.{State, state-form}
 
 -- Contracts, each said of every state that the words may be.
 abbrev pub StateReads : {R : Type 0} → Settings → (State → R) → List ℕ → R → Type 0
@@ -23,10 +22,3 @@ pub record RunWords (s : Settings) (ws : List ℕ) : Type 0 where
   pub long : length ws ≡ words-needed s
   pub least : 128 ≤ length ws
   pub is : Is (state-form s .enc) (state-form s .Ok) ws
-
--- where a register lies
-pub record RegisterAt (s : Settings) (r : ℕ) (p : Place) : Type 0 where
-  pub usable : p .u ≡ usable-at s r
-  pub start : p .start ≡ register-start s r
-  pub end : p .end ≡ p .start + register-width (usable-at s r)
-  pub within : p .end ≤ words-needed s

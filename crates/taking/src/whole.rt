@@ -3,49 +3,24 @@ use crate::tickets::Ticket;
 use model::Judged;
 use model::Room;
 use model::Settings;
-use model::Usable;
 use model::Verdict;
-use numbers::bounds;
 use numbers::codes;
 use numbers::starts;
 use register::Ask;
-ghost use mathlib.Core.Path.{_≡_};
-ghost use mathlib.Core.Bool.{true};
-ghost use Rattle.model.specs.Settings.{settings-fit, usable-at};
+ghost use Rattle.model.specs.Settings.{usable-at};
 ghost use Rattle.model.specs.Register.{published as published-for};
 ghost use Rattle.model.specs.Calls.{register-at};
 ghost use Prim.Native.Nat.{_<_};
 ghost use Rattle.register.specs.Rules.{asked-by};
 ghost use Rattle.ring.specs.Ring.{found-at};
 ghost use Rattle.taking.specs.Rules.{Proper, room-for, struck-by, judged-state, judged-says, batch-judged-state, batch-judged-says, silent};
-ghost use Rattle.taking.specs.Words.{RunWords, StateReads, StateTurns, RegisterAt};
-
-// A register's settings, and where its words lie.
-pub struct Place {
-    pub u: Usable,
-    pub start: usize,
-    pub end: usize,
-}
-
-fn place_of(s: Settings, r: usize) -> Place
-    requires { ⌜ (settings-fit s ≡ true) × (r < s .registers) ⌝ }
-    ensures { λ p. ⌜ RegisterAt s r p ⌝ }
-{
-    let u = bounds::usable_in(s, r);
-    let start = starts::register_start(s, r);
-    let width = starts::register_width(u);
-    Place {
-        u: u,
-        start: start,
-        end: start + width,
-    }
-}
+ghost use Rattle.taking.specs.Words.{RunWords, StateReads, StateTurns};
 
 pub fn judge(run: &mut [u64], s: Settings, r: usize, ask: Ask) -> Verdict
     requires { ⌜ RunWords s (now run) × (r < s .registers) ⌝ }
     ensures { λ v. ⌜ RunWords s (now (run .exit)) × StateTurns s (judged-state s r (asked-by ask)) (judged-says s r (asked-by ask)) (now (run .entry)) (now (run .exit)) v ⌝ }
 {
-    let at = place_of(s, r);
+    let at = starts::place_of(s, r);
     let a = at.start;
     let e = at.end;
     register::judge(&mut run[a..e], at.u, ask)
@@ -55,7 +30,7 @@ pub fn judge_batch(run: &mut [u64], s: Settings, r: usize, ask: Ask) -> Verdict
     requires { ⌜ RunWords s (now run) × (r < s .registers) ⌝ }
     ensures { λ v. ⌜ RunWords s (now (run .exit)) × StateTurns s (batch-judged-state s r (asked-by ask)) (batch-judged-says s r (asked-by ask)) (now (run .entry)) (now (run .exit)) v ⌝ }
 {
-    let at = place_of(s, r);
+    let at = starts::place_of(s, r);
     let a = at.start;
     let e = at.end;
     register::judge_batch(&mut run[a..e], at.u, ask)
@@ -66,7 +41,7 @@ pub fn published(run: &[u64], s: Settings, r: usize) -> Judged
     requires { ⌜ RunWords s (now run) × (r < s .registers) ⌝ }
     ensures { λ v. ⌜ StateReads s (λ t. published-for (usable-at s r) (register-at r t .swept)) (now (run .entry)) (v .0) ⌝ }
 {
-    let at = place_of(s, r);
+    let at = starts::place_of(s, r);
     let a = at.start;
     let e = at.end;
     register::published_sweep(&run[a..e])
@@ -77,7 +52,7 @@ pub fn room(run: &[u64], s: Settings, r: usize, ticket: Ticket) -> Room
     requires { ⌜ (RunWords s (now run) × (r < s .registers)) × Proper ticket ⌝ }
     ensures { λ v. ⌜ StateReads s (room-for s r ticket) (now (run .entry)) v ⌝ }
 {
-    let at = place_of(s, r);
+    let at = starts::place_of(s, r);
     let a = at.start;
     let e = at.end;
     let who = ticket.who;
@@ -91,7 +66,7 @@ pub fn strike(run: &mut [u64], s: Settings, r: usize, ticket: Ticket, position: 
     requires { ⌜ ((RunWords s (now run) × (r < s .registers)) × Proper ticket) × StateReads s (room-for s r ticket) (now run) (found-at position) ⌝ }
     ensures { λ _. ⌜ StateTurns s (struck-by r ticket) silent (now (run .entry)) (now (run .exit)) (tt {0}) ⌝ }
 {
-    let at = place_of(s, r);
+    let at = starts::place_of(s, r);
     let a = at.start;
     let e = at.end;
     let who = ticket.who;

@@ -4,7 +4,7 @@ use Rattle.model.specs.declared.Answer.the-variants.{Done}
 use Rattle.model.specs.Settings.{settings-of}
 use Rattle.model.specs.Calls.{Expire, codes-fit, step}
 use Rattle.strikes.proofs.Admitting.{expires}
-use Rattle.strikes.proofs.Placed.{words-in-bounds}
+use Rattle.vet.proofs.Entering.{words-fit}
 use Rattle.strikes.proofs.OnWhole.{book-refused, run-within, run-there, told-run}
 use Rattle.strikes.proofs.OnClass.{settings-there}
 use borrow.Author.Needs.{needs}
@@ -33,12 +33,12 @@ returns c = let s = c .before .before .before .before .before in book-refused (s
 -- src/lib.rt:327:9
 settings-of-requires : tie.Need-settings-of-requires
 unfolding codes-fit
-settings-of-requires c κs = let s = c .before .before .before .before .before in words-in-bounds (s .args .settings .now) (settings-there (s .args .settings .now) (s .args .words .now) (Expire (s .args .reading)) (expires (s .args .reading)) _ (c .before .vetted .ensures) (c .if1 .left)) .0
+settings-of-requires c κs = let s = c .before .before .before .before .before in words-fit (s .args .settings .now) (settings-there (s .args .settings .now) (s .args .words .now) (Expire (s .args .reading)) (expires (s .args .reading)) _ (c .before .vetted .ensures) (c .if1 .left)) .0
 
 -- src/lib.rt:328:9
 needed-requires : tie.Need-needed-requires
 unfolding codes-fit
-needed-requires c κs = let s = c .before .before .before .before .before .before in rw (c .settings-of .ensures) (words-in-bounds (s .args .settings .now) (settings-there (s .args .settings .now) (s .args .words .now) (Expire (s .args .reading)) (expires (s .args .reading)) _ (c .before .before .vetted .ensures) (c .before .if1 .left)) .1)
+needed-requires c κs = let s = c .before .before .before .before .before .before in rw (c .settings-of .ensures) (words-fit (s .args .settings .now) (settings-there (s .args .settings .now) (s .args .words .now) (Expire (s .args .reading)) (expires (s .args .reading)) _ (c .before .before .vetted .ensures) (c .before .if1 .left)) .1)
 
 -- src/lib.rt:329:22
 sub-expire : tie.Need-sub-expire

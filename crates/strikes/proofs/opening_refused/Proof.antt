@@ -1,6 +1,6 @@
 use mathlib.Core.Bool.{_&&_}
 use Rattle.strikes.proofs.Opening.{opens-unfit, opens-unlisted, opens-short, opens-all}
-use Rattle.strikes.proofs.Placed.{words-in-bounds}
+use Rattle.vet.proofs.Entering.{words-fit}
 use borrow.Author.Tests.{not-true, not-false}
 use mathlib.Core.Path.{refl, sym, _∙_, ap}
 use borrow.Author.Needs.{needs}
@@ -24,7 +24,7 @@ returns c = opens-unfit (c .before .before .before .before .before .args .settin
 
 -- src/lib.rt:320:9
 settings-of-requires : tie.Need-settings-of-requires
-settings-of-requires c κs = words-in-bounds (c .before .before .before .before .before .args .settings .now) (sym (c .before .settings-fit .ensures) ∙ not-false _ (c .if1 .left)) .0
+settings-of-requires c κs = words-fit (c .before .before .before .before .before .args .settings .now) (sym (c .before .settings-fit .ensures) ∙ not-false _ (c .if1 .left)) .0
 
 -- src/lib.rt:321:9
 limits-fit-requires : tie.Need-limits-fit-requires
@@ -40,7 +40,7 @@ returns-2 c = opens-unlisted (c .before .before .before .before .before .before 
 
 -- src/lib.rt:326:8
 too-short-requires : tie.Need-too-short-requires
-too-short-requires c κs = rw (c .before .before .before .settings-of .ensures) (words-in-bounds (c .before .before .before .before .before .before .before .before .before .args .settings .now) (sym (c .before .before .before .before .before .settings-fit .ensures) ∙ not-false _ (c .before .before .before .before .if1 .left)) .1)
+too-short-requires c κs = rw (c .before .before .before .settings-of .ensures) (words-fit (c .before .before .before .before .before .before .before .before .before .args .settings .now) (sym (c .before .before .before .before .before .settings-fit .ensures) ∙ not-false _ (c .before .before .before .before .if1 .left)) .1)
 
 -- src/lib.rt:327:9
 returns-3 : tie.Need-returns-3

@@ -9,7 +9,7 @@ use Rattle.restoring.specs.Rules.{restored-whole}
 use Rattle.strikes.specs.Calls.{restore-answer}
 use Rattle.strikes.proofs.OnRegister.{told-refused, enters}
 use Rattle.strikes.proofs.OnWhole.{whole-within, whole-lies, told-whole}
-use Rattle.strikes.proofs.Placed.{words-in-bounds}
+use Rattle.vet.proofs.Entering.{words-fit}
 use Rattle.strikes.proofs.OnRestore.{whole-dump, within-bytes, not-cut, restore-says, restore-leaves, told-cut}
 use borrow.Author.Needs.{needs}
 use Rattle.strikes.proofs.restore.Statement.{statement}
@@ -60,12 +60,12 @@ returns-2 c = told-cut (c .before .before .before .before .before .before .befor
 -- src/lib.rt:472:9
 settings-of-requires : tie.Need-settings-of-requires
 unfolding deed-fits late-deed
-settings-of-requires c κs = words-in-bounds (c .before .before .before .before .before .before .before .before .before .before .args .settings .now) (enters (c .before .before .before .before .before .before .before .before .before .before .args .settings .now) (c .before .before .before .before .before .before .before .before .before .before .args .words .now) (c .before .before .before .before .before .before .before .before .before .before .args .register) (Restore (c .before .before .before .before .before .before .before .before .before .before .args .bytes .now)) _ (c .before .before .before .before .before .admitted .ensures) (c .before .before .before .before .if1 .left) .fit) .0
+settings-of-requires c κs = words-fit (c .before .before .before .before .before .before .before .before .before .before .args .settings .now) (enters (c .before .before .before .before .before .before .before .before .before .before .args .settings .now) (c .before .before .before .before .before .before .before .before .before .before .args .words .now) (c .before .before .before .before .before .before .before .before .before .before .args .register) (Restore (c .before .before .before .before .before .before .before .before .before .before .args .bytes .now)) _ (c .before .before .before .before .before .admitted .ensures) (c .before .before .before .before .if1 .left) .fit) .0
 
 -- src/lib.rt:473:9
 needed-requires : tie.Need-needed-requires
 unfolding deed-fits late-deed
-needed-requires c κs = rw (c .settings-of .ensures) (words-in-bounds (c .before .before .before .before .before .before .before .before .before .before .before .args .settings .now) (enters (c .before .before .before .before .before .before .before .before .before .before .before .args .settings .now) (c .before .before .before .before .before .before .before .before .before .before .before .args .words .now) (c .before .before .before .before .before .before .before .before .before .before .before .args .register) (Restore (c .before .before .before .before .before .before .before .before .before .before .before .args .bytes .now)) _ (c .before .before .before .before .before .before .admitted .ensures) (c .before .before .before .before .before .if1 .left) .fit) .1)
+needed-requires c κs = rw (c .settings-of .ensures) (words-fit (c .before .before .before .before .before .before .before .before .before .before .before .args .settings .now) (enters (c .before .before .before .before .before .before .before .before .before .before .before .args .settings .now) (c .before .before .before .before .before .before .before .before .before .before .before .args .words .now) (c .before .before .before .before .before .before .before .before .before .before .before .args .register) (Restore (c .before .before .before .before .before .before .before .before .before .before .before .args .bytes .now)) _ (c .before .before .before .before .before .before .admitted .ensures) (c .before .before .before .before .before .if1 .left) .fit) .1)
 
 -- src/lib.rt:475:36
 sub-restore : tie.Need-sub-restore

@@ -4,7 +4,7 @@ use Rattle.model.specs.declared.Answer.the-variants.{Said}
 use Rattle.model.specs.Settings.{settings-of}
 use Rattle.model.specs.Calls.{Ticket, taken-batch, deed-fits, late-deed, done-on, asked, after-taken}
 use Rattle.strikes.proofs.OnWhole.{whole-within, whole-lies, told-whole}
-use Rattle.strikes.proofs.Placed.{words-in-bounds}
+use Rattle.vet.proofs.Entering.{words-fit}
 use Rattle.strikes.proofs.OnRegister.{told-refused, enters}
 use mathlib.Core.Path.{refl, sym, _∙_, ap, subst}
 use native.Mathlib.Omega.{arith}
@@ -40,12 +40,12 @@ returns c = told-refused (c .before .before .before .before .before .before .arg
 -- src/lib.rt:270:9
 settings-of-requires : tie.Need-settings-of-requires
 unfolding deed-fits
-settings-of-requires c κs = words-in-bounds (c .before .before .before .before .before .before .args .settings .now) (enters (c .before .before .before .before .before .before .args .settings .now) (c .before .before .before .before .before .before .args .words .now) (c .before .before .before .before .before .before .args .register) (Ticket taken-batch (record { fp = c .before .before .before .before .before .before .args .fp; stamp = c .before .before .before .before .before .before .args .stamp; ms = c .before .before .before .before .before .before .args .reading; flag = c .before .before .before .before .before .before .args .flag; kind = c .before .before .before .before .before .before .args .kind; number = c .before .before .before .before .before .before .args .number })) _ (rw (c .before .before .before .ticket-codes .ensures) at (c .before .admitted .ensures)) (c .if1 .left) .fit) .0
+settings-of-requires c κs = words-fit (c .before .before .before .before .before .before .args .settings .now) (enters (c .before .before .before .before .before .before .args .settings .now) (c .before .before .before .before .before .before .args .words .now) (c .before .before .before .before .before .before .args .register) (Ticket taken-batch (record { fp = c .before .before .before .before .before .before .args .fp; stamp = c .before .before .before .before .before .before .args .stamp; ms = c .before .before .before .before .before .before .args .reading; flag = c .before .before .before .before .before .before .args .flag; kind = c .before .before .before .before .before .before .args .kind; number = c .before .before .before .before .before .before .args .number })) _ (rw (c .before .before .before .ticket-codes .ensures) at (c .before .admitted .ensures)) (c .if1 .left) .fit) .0
 
 -- src/lib.rt:271:9
 needed-requires : tie.Need-needed-requires
 unfolding deed-fits
-needed-requires c κs = rw (c .settings-of .ensures) (words-in-bounds (c .before .before .before .before .before .before .before .args .settings .now) (enters (c .before .before .before .before .before .before .before .args .settings .now) (c .before .before .before .before .before .before .before .args .words .now) (c .before .before .before .before .before .before .before .args .register) (Ticket taken-batch (record { fp = c .before .before .before .before .before .before .before .args .fp; stamp = c .before .before .before .before .before .before .before .args .stamp; ms = c .before .before .before .before .before .before .before .args .reading; flag = c .before .before .before .before .before .before .before .args .flag; kind = c .before .before .before .before .before .before .before .args .kind; number = c .before .before .before .before .before .before .before .args .number })) _ (rw (c .before .before .before .before .ticket-codes .ensures) at (c .before .before .admitted .ensures)) (c .before .if1 .left) .fit) .1)
+needed-requires c κs = rw (c .settings-of .ensures) (words-fit (c .before .before .before .before .before .before .before .args .settings .now) (enters (c .before .before .before .before .before .before .before .args .settings .now) (c .before .before .before .before .before .before .before .args .words .now) (c .before .before .before .before .before .before .before .args .register) (Ticket taken-batch (record { fp = c .before .before .before .before .before .before .before .args .fp; stamp = c .before .before .before .before .before .before .before .args .stamp; ms = c .before .before .before .before .before .before .before .args .reading; flag = c .before .before .before .before .before .before .before .args .flag; kind = c .before .before .before .before .before .before .before .args .kind; number = c .before .before .before .before .before .before .before .args .number })) _ (rw (c .before .before .before .before .ticket-codes .ensures) at (c .before .before .admitted .ensures)) (c .before .if1 .left) .fit) .1)
 
 -- src/lib.rt:272:9
 ask-of-requires : tie.Need-ask-of-requires

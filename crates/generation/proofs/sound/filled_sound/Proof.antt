@@ -3,8 +3,8 @@ use Rattle.generation.proofs.Doubling.{three-quarters}
 use Rattle.generation.proofs.sound.filled_sound.Statement.{statement}
 use Rattle.generation.proofs.sound.filled_sound.Tie as tie
 
-is-power-requires : tie.Need-is-power-requires
-is-power-requires c κs = search needs
+is-power-of-two-requires : tie.Need-is-power-of-two-requires
+is-power-of-two-requires c κs = search needs
 
 mul-result : tie.Need-mul-result
 mul-result c = search needs
@@ -13,7 +13,7 @@ rem-result : tie.Need-rem-result
 rem-result c = search needs
 
 returns : tie.Need-returns
-returns c = let a = c .before .args in rw (c .is-power .ensures, three-quarters (a .held) (a .slots))
+returns c = let a = c .before .args in rw (c .is-power-of-two .ensures, three-quarters (a .held) (a .slots))
 
 pub filled-sound-spec : {M : Type 1} → statement M
-filled-sound-spec = tie.close (tie.spec is-power-requires mul-result rem-result returns)
+filled-sound-spec = tie.close (tie.spec is-power-of-two-requires mul-result rem-result returns)

@@ -1,4 +1,5 @@
-use Rattle.numbers.proofs.Placing.{fit-of, product-few, class-within}
+use Rattle.numbers.proofs.Placing.{product-few, class-within}
+use Rattle.model.proofs.Bounds.{fit-shares}
 use native.Mathlib.Omega.{arith}
 use borrow.Author.Needs.{needs}
 use Rattle.numbers.proofs.starts.class_start.Statement.{statement}
@@ -10,7 +11,7 @@ use Rattle.numbers.proofs.starts.class_width.Reads as class-width-reads
 
 -- src/starts.rt:34:9
 class-width-requires : tie.Need-class-width-requires
-class-width-requires c κs = fit-of (c .args .s) (c .pre) .shares
+class-width-requires c κs = fit-shares (c .args .s) (c .pre)
 
 -- src/starts.rt:35:18
 class-number-requires : tie.Need-class-number-requires

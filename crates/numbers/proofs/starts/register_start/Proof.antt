@@ -1,6 +1,8 @@
 use mathlib.Core.Path.{_≡_}
 use Prim.Native.Nat.{_-_}
-use Rattle.numbers.proofs.Placing.{fit-of, Added, added-none, added-more, register-within}
+use Rattle.numbers.proofs.Placing.{Added, added-none, added-more, register-within}
+use Rattle.model.proofs.Bounds.{fit-shares, fit-usable}
+use Rattle.model.proofs.Words.{registers≤4}
 use native.Mathlib.Omega.{arith}
 use Rattle.numbers.proofs.starts.register_start.Statement.{statement}
 use Rattle.numbers.proofs.starts.register_start.Tie as tie
@@ -18,7 +20,7 @@ abbrev μ-loop : tie.MeasureT-loop
 
 -- src/starts.rt:72:9
 class-width-requires : tie.Need-class-width-requires Inv-loop μ-loop
-class-width-requires c κs = fit-of (c .args .s) (c .pre .0) .shares
+class-width-requires c κs = fit-shares (c .args .s) (c .pre .0)
 
 -- src/starts.rt:73:22
 mul-a : tie.Need-mul-a Inv-loop μ-loop
@@ -34,15 +36,15 @@ loop-holds c = added-none (c .before .args .s) (c .before .args .register) _ (c 
 
 -- src/starts.rt:76:13
 usable-in-requires : tie.Need-usable-in-requires Inv-loop μ-loop
-usable-in-requires c κs = let m = fit-of (c .before .before .before .args .s) (c .before .before .before .pre .0) .most in let t = c .loop-test .taken in let p = c .before .before .before .pre .1 in omega arith
+usable-in-requires c κs = let m = registers≤4 (c .before .before .before .args .s) (c .before .before .before .pre .0) in let t = c .loop-test .taken in let p = c .before .before .before .pre .1 in omega arith
 
 -- src/starts.rt:77:13
 register-width-requires : tie.Need-register-width-requires Inv-loop μ-loop
-register-width-requires c κs = let t = c .before .loop-test .taken in let p = c .before .before .before .before .pre .1 in rw (c .usable-in .ensures) (fit-of (c .before .before .before .before .args .s) (c .before .before .before .before .pre .0) .each (c .before .before .loop .i) (omega arith))
+register-width-requires c κs = let t = c .before .loop-test .taken in let p = c .before .before .before .before .pre .1 in rw (c .usable-in .ensures) (fit-usable (c .before .before .before .before .args .s) (c .before .before .loop .i) (c .before .before .before .before .pre .0) (omega arith))
 
 -- src/starts.rt:78:9
 add-a-2 : tie.Need-add-a-2 Inv-loop μ-loop
-add-a-2 c = let m = fit-of (c .before .before .before .before .before .args .s) (c .before .before .before .before .before .pre .0) .most in let y = c .before .before .before .loop .inv .small in let w = c .before .before .before .loop .inv .within in let p = c .before .before .before .before .before .pre .1 in let k = c .register-width .ensures .1 in omega arith
+add-a-2 c = let m = registers≤4 (c .before .before .before .before .before .args .s) (c .before .before .before .before .before .pre .0) in let y = c .before .before .before .loop .inv .small in let w = c .before .before .before .loop .inv .within in let p = c .before .before .before .before .before .pre .1 in let k = c .register-width .ensures .1 in omega arith
 
 -- src/starts.rt:79:9
 add-i : tie.Need-add-i Inv-loop μ-loop
@@ -58,7 +60,7 @@ loop-again c = added-more (c .before .before .before .before .before .args .s) (
 
 -- src/starts.rt:68:1
 returns : tie.Need-returns Inv-loop μ-loop
-returns c = let l = c .before .loop .inv in let w = l .within in let t = c .loop-test .left in let e : c .before .loop .i ≡ (c .before .before .before .args .register) = omega arith in let k = rw e at (l .sum) in let m = fit-of (c .before .before .before .args .s) (c .before .before .before .pre .0) .most in (k, rw k (register-within (c .before .before .before .args .s) (c .before .before .before .args .register) m (c .before .before .before .pre .1)))
+returns c = let l = c .before .loop .inv in let w = l .within in let t = c .loop-test .left in let e : c .before .loop .i ≡ (c .before .before .before .args .register) = omega arith in let k = rw e at (l .sum) in let m = registers≤4 (c .before .before .before .args .s) (c .before .before .before .pre .0) in (k, rw k (register-within (c .before .before .before .args .s) (c .before .before .before .args .register) m (c .before .before .before .pre .1)))
 
 pub register-start-spec : {M : Type 1} → statement M
 register-start-spec =

@@ -1,6 +1,7 @@
 use mathlib.Core.Path.{ap}
 use Prim.Native.Nat.{ℕ, _+_}
-use Rattle.restoring.proofs.Shares.{share-asks, limits-fine, draw-acts}
+use Rattle.restoring.proofs.Shares.{share-asks, draw-acts}
+use Rattle.taking.proofs.Draws.{limits-are-fit}
 use Rattle.model.proofs.Bounds.{fit-shares}
 use borrow.Author.Needs.{needs}
 use Rattle.restoring.proofs.leaves.draw.Statement.{statement}
@@ -76,7 +77,7 @@ part-take-end c = search needs
 
 -- src/leaves.rt:135:9
 take-requires : tie.Need-take-requires
-take-requires c κs = let s = c .before .before .before .before .before .before .before .before .before .before .before in (share-asks (s .args .s) (s .args .r) (s .pre .0 .1) (s .args .h) (s .args .run .now) (s .pre .0 .0) _ _ (c .before .before .class-start .ensures .0) (ap (λ (n : ℕ). c .before .before .class-start .result + n) (c .before .class-width .ensures .0)), limits-fine (s .args .s) (s .args .r) (s .pre .0 .1) (s .args .h) (s .args .run .now) (s .pre .0 .0) _ _ (c .before .before .class-start .ensures .0) (ap (λ (n : ℕ). c .before .before .class-start .result + n) (c .before .class-width .ensures .0)) _ _ (c .before .before .before .before .before .before .before .kept-limits .ensures (s .args .s)) (c .before .before .before .before .is-closed .ensures (s .args .s)))
+take-requires c κs = let s = c .before .before .before .before .before .before .before .before .before .before .before in (share-asks (s .args .s) (s .args .r) (s .pre .0 .1) (s .args .h) (s .args .run .now) (s .pre .0 .0) _ _ (c .before .before .class-start .ensures .0) (ap (λ (n : ℕ). c .before .before .class-start .result + n) (c .before .class-width .ensures .0)), limits-are-fit (s .args .s) (s .args .run .now) (s .pre .0 .0) _ _ (c .before .before .before .before .before .before .before .kept-limits .ensures (s .args .s)) (c .before .before .before .before .is-closed .ensures (s .args .s)))
 
 -- src/leaves.rt:136:5
 is-granted-requires : tie.Need-is-granted-requires

@@ -1,12 +1,12 @@
 use Rattle.restoring.proofs.Registers.{fail-acts}
-use Rattle.restoring.proofs.Acting.{place-asks}
+use Rattle.taking.proofs.InRun.{register-asks}
 use borrow.Author.Needs.{needs}
 use Rattle.restoring.proofs.leaves.fail.Statement.{statement}
 use Rattle.restoring.proofs.leaves.fail.Tie as tie
 use Rattle.restoring.proofs.leaves.fail.Reads as reads
 use Rattle.restoring.proofs.leaves.fail.Lts as lts
 use Rattle.register.proofs.fail.Reads as fail-reads
-use Rattle.restoring.proofs.leaves.place_of.Reads as place-of-reads
+use Rattle.numbers.proofs.starts.place_of.Reads as place-of-reads
 
 -- src/leaves.rt:82:9
 place-of-requires : tie.Need-place-of-requires
@@ -30,7 +30,7 @@ part-fail-end c = search needs
 
 -- src/leaves.rt:87:5
 fail-requires : tie.Need-fail-requires
-fail-requires c κs = let s = c .before .before .before .before in place-asks (s .args .s) (s .args .r) (s .pre .1) _ (c .before .before .place-of .ensures) (s .args .run .now) (s .pre .0)
+fail-requires c κs = let s = c .before .before .before .before in register-asks (s .args .s) (s .args .r) (s .pre .1) _ (c .before .before .place-of .ensures) (s .args .run .now) (s .pre .0)
 
 -- src/leaves.rt:78:1
 same-length : tie.Need-same-length

@@ -1,12 +1,12 @@
 use Rattle.restoring.proofs.Registers.{hold-acts}
-use Rattle.restoring.proofs.Acting.{place-asks}
+use Rattle.taking.proofs.InRun.{register-asks}
 use borrow.Author.Needs.{needs}
 use Rattle.restoring.proofs.leaves.hold.Statement.{statement}
 use Rattle.restoring.proofs.leaves.hold.Tie as tie
 use Rattle.restoring.proofs.leaves.hold.Reads as reads
 use Rattle.restoring.proofs.leaves.hold.Lts as lts
 use Rattle.restoring.proofs.leaves.hold_in.Reads as hold-in-reads
-use Rattle.restoring.proofs.leaves.place_of.Reads as place-of-reads
+use Rattle.numbers.proofs.starts.place_of.Reads as place-of-reads
 
 -- src/leaves.rt:71:9
 place-of-requires : tie.Need-place-of-requires
@@ -30,7 +30,7 @@ part-hold-in-end c = search needs
 
 -- src/leaves.rt:74:5
 hold-in-requires : tie.Need-hold-in-requires
-hold-in-requires c κs = let s = c .before .before .before in place-asks (s .args .s) (s .args .r) (s .pre .1) _ (c .before .place-of .ensures) (s .args .run .now) (s .pre .0)
+hold-in-requires c κs = let s = c .before .before .before in register-asks (s .args .s) (s .args .r) (s .pre .1) _ (c .before .place-of .ensures) (s .args .run .now) (s .pre .0)
 
 -- src/leaves.rt:67:1
 same-length : tie.Need-same-length

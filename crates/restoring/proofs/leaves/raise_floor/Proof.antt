@@ -5,7 +5,7 @@ use Rattle.restoring.proofs.leaves.raise_floor.Tie as tie
 use Rattle.restoring.proofs.leaves.raise_floor.Reads as reads
 use Rattle.restoring.proofs.leaves.raise_floor.Lts as lts
 use Rattle.register.proofs.raise_floor.Reads as raise-floor-reads
-use Rattle.restoring.proofs.leaves.place_of.Reads as place-of-reads
+use Rattle.numbers.proofs.starts.place_of.Reads as place-of-reads
 
 -- src/leaves.rt:117:9
 place-of-requires : tie.Need-place-of-requires

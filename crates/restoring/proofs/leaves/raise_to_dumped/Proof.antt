@@ -5,7 +5,7 @@ use Rattle.restoring.proofs.leaves.raise_to_dumped.Tie as tie
 use Rattle.restoring.proofs.leaves.raise_to_dumped.Reads as reads
 use Rattle.restoring.proofs.leaves.raise_to_dumped.Lts as lts
 use Rattle.register.proofs.raise_to_dumped.Reads as raise-to-dumped-reads
-use Rattle.restoring.proofs.leaves.place_of.Reads as place-of-reads
+use Rattle.numbers.proofs.starts.place_of.Reads as place-of-reads
 
 -- src/leaves.rt:95:9
 place-of-requires : tie.Need-place-of-requires

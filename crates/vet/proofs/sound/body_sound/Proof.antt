@@ -6,13 +6,13 @@ use borrow.Author.Needs.{needs}
 use borrow.Author.Tests.{not-true, not-false}
 use Rattle.runs.specs.Combine.{both, free}
 use Rattle.model.specs.Words.{book-form, registers-form, unused-width}
-use Rattle.numbers.proofs.Placing.{fit-of}
+use Rattle.model.proofs.Bounds.{fit-shares}
 use Rattle.vet.proofs.Tests.{first-not, first-on}
 use Rattle.vet.proofs.sound.body_sound.Tie as tie
 use Rattle.vet.proofs.sound.body_sound.Statement.{statement}
 
 class-width-requires : tie.Need-class-width-requires
-class-width-requires c κs = fit-of (c .before .args .s) (c .before .pre .0) .shares
+class-width-requires c κs = fit-shares (c .before .args .s) (c .before .pre .0)
 
 mul-a : tie.Need-mul-a
 mul-a c = search needs

@@ -4,13 +4,13 @@ use mathlib.Core.Path.{refl}
 use borrow.Author.Needs.{needs}
 use Rattle.model.specs.BookWords.{class-form}
 use Rattle.model.specs.Words.{class-width}
-use Rattle.numbers.proofs.Placing.{fit-of}
+use Rattle.model.proofs.Bounds.{fit-shares}
 use Rattle.vet.proofs.Tests.{each-test, first-long, second-long, third-long}
 use Rattle.vet.proofs.sound.book_sound.Tie as tie
 use Rattle.vet.proofs.sound.book_sound.Statement.{statement}
 
 class-width-requires : tie.Need-class-width-requires
-class-width-requires c κs = fit-of (c .before .args .s) (c .before .pre .0) .shares
+class-width-requires c κs = fit-shares (c .before .args .s) (c .before .pre .0)
 
 mul-b : tie.Need-mul-b
 mul-b c = search needs
@@ -25,7 +25,7 @@ part-class-sound-end : tie.Need-part-class-sound-end
 part-class-sound-end c = search needs
 
 class-sound-requires : tie.Need-class-sound-requires
-class-sound-requires c κs = let s = c .before .before .before in let h = s .args .s .shares in (fit-of (s .args .s) (s .pre .0) .shares, first-long (class-form h) (class-width h) (λ c. omega arith) (s .args .book .now) (s .pre .1) _ _ (c .before .class-width .ensures .0) refl)
+class-sound-requires c κs = let s = c .before .before .before in let h = s .args .s .shares in (fit-shares (s .args .s) (s .pre .0), first-long (class-form h) (class-width h) (λ c. omega arith) (s .args .book .now) (s .pre .1) _ _ (c .before .class-width .ensures .0) refl)
 
 mul-class-sound : tie.Need-mul-class-sound
 mul-class-sound c = search needs
@@ -40,7 +40,7 @@ part-class-sound-end-2 : tie.Need-part-class-sound-end-2
 part-class-sound-end-2 c = search needs
 
 class-sound-requires-2 : tie.Need-class-sound-requires-2
-class-sound-requires-2 c κs = let s = c .before .before .before .before .before in let h = s .args .s .shares in (fit-of (s .args .s) (s .pre .0) .shares, second-long (class-form h) (class-width h) (λ c. omega arith) (s .args .book .now) (s .pre .1) _ _ (c .before .before .before .class-width .ensures .0) refl)
+class-sound-requires-2 c κs = let s = c .before .before .before .before .before in let h = s .args .s .shares in (fit-shares (s .args .s) (s .pre .0), second-long (class-form h) (class-width h) (λ c. omega arith) (s .args .book .now) (s .pre .1) _ _ (c .before .before .before .class-width .ensures .0) refl)
 
 mul-class-sound-2 : tie.Need-mul-class-sound-2
 mul-class-sound-2 c = search needs
@@ -55,7 +55,7 @@ part-class-sound-end-3 : tie.Need-part-class-sound-end-3
 part-class-sound-end-3 c = search needs
 
 class-sound-requires-3 : tie.Need-class-sound-requires-3
-class-sound-requires-3 c κs = let s = c .before .before .before .before .before .before .before in let h = s .args .s .shares in (fit-of (s .args .s) (s .pre .0) .shares, third-long (class-form h) (class-width h) (λ c. omega arith) (s .args .book .now) (s .pre .1) _ _ (c .before .before .before .before .before .class-width .ensures .0) refl)
+class-sound-requires-3 c κs = let s = c .before .before .before .before .before .before .before in let h = s .args .s .shares in (fit-shares (s .args .s) (s .pre .0), third-long (class-form h) (class-width h) (λ c. omega arith) (s .args .book .now) (s .pre .1) _ _ (c .before .before .before .before .before .class-width .ensures .0) refl)
 
 returns : tie.Need-returns
 returns c = let s = c .before .before .before .before .before .before .before .before in let h = s .args .s .shares in each-test (class-form h) (class-width h) (λ c. omega arith) (s .args .book .now) (s .pre .1) _ _ (c .before .before .before .before .before .before .class-width .ensures .0) refl _ _ _ (c .before .before .before .before .class-sound .ensures) (c .before .before .class-sound2 .ensures) (c .class-sound3 .ensures)

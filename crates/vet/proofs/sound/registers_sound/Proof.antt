@@ -5,7 +5,8 @@ use mathlib.Core.Path.{_∙_}
 use borrow.Author.Needs.{needs}
 use Rattle.runs.proofs.Walk.{Passed, pass-start, pass-end}
 use Rattle.model.specs.Words.{unused-width}
-use Rattle.numbers.proofs.Placing.{fit-of}
+use Rattle.model.proofs.Bounds.{fit-usable}
+use Rattle.model.proofs.Words.{registers≤4}
 use Rattle.vet.proofs.Tests.{row-then}
 use Rattle.vet.proofs.Turns.{form-at, turn-inside, turn-long, turn-on}
 use Rattle.vet.proofs.sound.registers_sound.Tie as tie
@@ -21,10 +22,10 @@ loop-holds : tie.Need-loop-holds Inv-loop μ-loop
 loop-holds c = pass-start _ _ _
 
 usable-in-requires : tie.Need-usable-in-requires Inv-loop μ-loop
-usable-in-requires c κs = let f = fit-of (c .before .before .before .args .s) (c .before .before .before .pre .0) in omega arith
+usable-in-requires c κs = let m = registers≤4 (c .before .before .before .args .s) (c .before .before .before .pre .0) in omega arith
 
 register-width-requires : tie.Need-register-width-requires Inv-loop μ-loop
-register-width-requires c κs = rw (c .usable-in .ensures) (fit-of (c .before .before .before .before .args .s) (c .before .before .before .before .pre .0) .each (c .before .before .loop .i) (omega arith))
+register-width-requires c κs = rw (c .usable-in .ensures) (fit-usable (c .before .before .before .before .args .s) (c .before .before .loop .i) (c .before .before .before .before .pre .0) (omega arith))
 
 add-e : tie.Need-add-e Inv-loop μ-loop
 add-e c = let k = turn-inside (c .before .before .before .before .before .args .s) (c .before .before .before .before .before .args .words .now) (c .before .before .before .before .before .pre .1) _ _ _ (c .before .before .before .loop .inv) (omega arith) _ (c .register-width .ensures .0 ∙ rw (c .before .usable-in .ensures)) in omega arith
@@ -42,7 +43,7 @@ part-register-sound-end : tie.Need-part-register-sound-end Inv-loop μ-loop
 part-register-sound-end c = turn-inside (c .before .before .before .before .before .args .s) (c .before .before .before .before .before .args .words .now) (c .before .before .before .before .before .pre .1) _ _ _ (c .before .before .before .loop .inv) (omega arith) _ (c .register-width .ensures .0 ∙ rw (c .before .usable-in .ensures))
 
 register-sound-requires : tie.Need-register-sound-requires Inv-loop μ-loop
-register-sound-requires c κs = rw (c .before .before .usable-in .ensures) (fit-of (c .before .before .before .before .before .before .args .s) (c .before .before .before .before .before .before .pre .0) .each (c .before .before .before .before .loop .i) (omega arith), turn-long (c .before .before .before .before .before .before .args .s) (c .before .before .before .before .before .before .args .words .now) (c .before .before .before .before .before .before .pre .1) _ _ _ (c .before .before .before .before .loop .inv) (omega arith) _ (c .before .register-width .ensures .0 ∙ rw (c .before .before .usable-in .ensures)))
+register-sound-requires c κs = rw (c .before .before .usable-in .ensures) (fit-usable (c .before .before .before .before .before .before .args .s) (c .before .before .before .before .loop .i) (c .before .before .before .before .before .before .pre .0) (omega arith), turn-long (c .before .before .before .before .before .before .args .s) (c .before .before .before .before .before .before .args .words .now) (c .before .before .before .before .before .before .pre .1) _ _ _ (c .before .before .before .before .loop .inv) (omega arith) _ (c .before .register-width .ensures .0 ∙ rw (c .before .before .usable-in .ensures)))
 
 add-i : tie.Need-add-i Inv-loop μ-loop
 add-i c = search needs
