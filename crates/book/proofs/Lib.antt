@@ -10,3 +10,6 @@ pub mod Spots
 pub mod Entering
 pub mod Returning
 pub mod Keeping
+pub mod Lending
+pub mod LentTotals
+pub mod LendingTotals

@@ -1,5 +1,5 @@
--- A class's totals as numbers: what they are of a class, and how a draw, a return and an expiry alter them.
-use Prim.Native.Nat.{ℕ, _+_, _-_}
+-- A class's totals as numbers: what they are of a class, how a draw, a return and an expiry alter them, and what each of these asks.
+use Prim.Native.Nat.{ℕ, _+_, _-_, _≤_}
 use mathlib.Core.List.{List}
 use lib.ListN.{length, getD}
 use Rattle.model.specs.declared.Shares.{Shares}
@@ -21,3 +21,13 @@ untaken t gone place = record { entries = t .entries - 1; holders = t .holders -
 abbrev pub expired-to : Totals → ℕ → ℕ → ℕ → ℕ → Totals
 expired-to t entries holders units through =
     record { entries = t .entries - entries; holders = t .holders - holders; units = t .units - units; expired = through }
+
+-- so that no sum is too large and nothing is taken off that is not there
+abbrev pub CanTake : Totals → ℕ → ℕ → Type 0
+CanTake t first place = (t .entries ≤ 4_000_000) × (t .holders ≤ 64) × (t .units ≤ 4_000_000) × (first ≤ 1) × (place ≤ 4_096)
+
+abbrev pub CanUntake : Totals → ℕ → ℕ → Type 0
+CanUntake t gone place = (1 ≤ t .entries) × (gone ≤ t .holders) × (1 + place ≤ t .units)
+
+abbrev pub CanExpire : Totals → ℕ → ℕ → ℕ → Type 0
+CanExpire t entries holders units = (entries ≤ t .entries) × (holders ≤ t .holders) × (units ≤ t .units)

@@ -150,7 +150,7 @@ pub fn enter(part: &mut [u64], shares: Shares, who: Deliverer, spot: Spot)
     let first = decide::if_none(spot.entries, 1);
     let opened = decide::if_none(spot.entries, units);
     let sums = totals::read(part);
-    let t = totals::take(sums, first, opened);
+    let t = totals::lent_to_take(sums, first, opened);
     enter_place(part, shares, who, spot);
     totals::write(part, t);
 }
@@ -234,7 +234,7 @@ pub fn untake(part: &mut [u64], shares: Shares, who: Deliverer, second: Second)
     let gone = decide::if_one(spot.entries, 1);
     let freed = decide::if_one(spot.entries, units);
     let sums = totals::read(part);
-    let t = totals::untake(sums, gone, freed);
+    let t = totals::lent_to_untake(sums, gone, freed);
     return_place(part, shares, who, spot);
     totals::write(part, t);
 }

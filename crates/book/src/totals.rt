@@ -1,9 +1,11 @@
-// A class's totals, by value: they are the first four words of the class's part.
+// A class's totals: the first four words of the class's part. A draw, a return and an expiry alter them by `take`, `untake` and
+// `expire`, to which they are lent. Each of these hands the totals by value to the function that does the work; whoever holds
+// the totals by value lends them by `lent_to_take`, `lent_to_untake` and `lent_to_expire`.
 ghost use mathlib.Core.Path.{_≡_};
-ghost use Prim.Native.Nat.{_+_, _≤_};
+ghost use Prim.Native.Nat.{_≤_};
 ghost use mathlib.Core.List.{_∷_};
 ghost use lib.ListN.{length, drop};
-ghost use Rattle.book.specs.Sums.{totals-in, taken, untaken, expired-to};
+ghost use Rattle.book.specs.Sums.{totals-in, taken, untaken, expired-to, CanTake, CanUntake, CanExpire};
 
 pub struct Totals {
     pub entries: u64,
@@ -36,9 +38,11 @@ pub fn write(part: &mut [u64], t: Totals)
     part[3] = t.expired;
 }
 
+// ---- the work, by value
+
 // One entry more; `first` is 1 and `place` the place's units where the deliverer had no place.
-pub fn take(t: Totals, first: u64, place: u64) -> Totals
-    requires { ⌜ (t .entries ≤ 4_000_000) × (t .holders ≤ 64) × (t .units ≤ 4_000_000) × (first ≤ 1) × (place ≤ 4_096) ⌝ }
+fn taken(t: Totals, first: u64, place: u64) -> Totals
+    requires { ⌜ CanTake t first place ⌝ }
     ensures { λ r. ⌜ r ≡ taken t first place ⌝ }
 {
     Totals {
@@ -50,8 +54,8 @@ pub fn take(t: Totals, first: u64, place: u64) -> Totals
 }
 
 // One entry less; `gone` is 1 and `place` the place's units where its place went.
-pub fn untake(t: Totals, gone: u64, place: u64) -> Totals
-    requires { ⌜ (1 ≤ t .entries) × (gone ≤ t .holders) × (1 + place ≤ t .units) ⌝ }
+fn untaken(t: Totals, gone: u64, place: u64) -> Totals
+    requires { ⌜ CanUntake t gone place ⌝ }
     ensures { λ r. ⌜ r ≡ untaken t gone place ⌝ }
 {
     Totals {
@@ -63,8 +67,8 @@ pub fn untake(t: Totals, gone: u64, place: u64) -> Totals
 }
 
 // So many entries, places and units less, up to a second.
-pub fn expire(t: Totals, entries: u64, holders: u64, units: u64, through: u64) -> Totals
-    requires { ⌜ (entries ≤ t .entries) × (holders ≤ t .holders) × (units ≤ t .units) ⌝ }
+fn expired_to(t: Totals, entries: u64, holders: u64, units: u64, through: u64) -> Totals
+    requires { ⌜ CanExpire t entries holders units ⌝ }
     ensures { λ r. ⌜ r ≡ expired-to t entries holders units through ⌝ }
 {
     Totals {
@@ -73,4 +77,59 @@ pub fn expire(t: Totals, entries: u64, holders: u64, units: u64, through: u64) -
         units: t.units - units,
         expired: through,
     }
+}
+
+// ---- the totals lent
+
+// A draw's entry is added to the totals.
+pub fn take(t: &mut Totals, first: u64, place: u64)
+    requires { ⌜ CanTake (now t) first place ⌝ }
+    ensures { λ _. ⌜ now (t .exit) ≡ taken (now (t .entry)) first place ⌝ }
+{
+    *t = taken(*t, first, place);
+}
+
+// An entry that is given back is taken off the totals.
+pub fn untake(t: &mut Totals, gone: u64, place: u64)
+    requires { ⌜ CanUntake (now t) gone place ⌝ }
+    ensures { λ _. ⌜ now (t .exit) ≡ untaken (now (t .entry)) gone place ⌝ }
+{
+    *t = untaken(*t, gone, place);
+}
+
+// What has expired up to a second is taken off the totals.
+pub fn expire(t: &mut Totals, entries: u64, holders: u64, units: u64, through: u64)
+    requires { ⌜ CanExpire (now t) entries holders units ⌝ }
+    ensures { λ _. ⌜ now (t .exit) ≡ expired-to (now (t .entry)) entries holders units through ⌝ }
+{
+    *t = expired_to(*t, entries, holders, units, through);
+}
+
+// ---- lending them, for callers that hold the totals by value
+
+pub fn lent_to_take(t: Totals, first: u64, place: u64) -> Totals
+    requires { ⌜ CanTake t first place ⌝ }
+    ensures { λ r. ⌜ r ≡ taken t first place ⌝ }
+{
+    let mut held = t;
+    take(&mut held, first, place);
+    held
+}
+
+pub fn lent_to_untake(t: Totals, gone: u64, place: u64) -> Totals
+    requires { ⌜ CanUntake t gone place ⌝ }
+    ensures { λ r. ⌜ r ≡ untaken t gone place ⌝ }
+{
+    let mut held = t;
+    untake(&mut held, gone, place);
+    held
+}
+
+pub fn lent_to_expire(t: Totals, entries: u64, holders: u64, units: u64, through: u64) -> Totals
+    requires { ⌜ CanExpire t entries holders units ⌝ }
+    ensures { λ r. ⌜ r ≡ expired-to t entries holders units through ⌝ }
+{
+    let mut held = t;
+    expire(&mut held, entries, holders, units, through);
+    held
 }

@@ -7,6 +7,7 @@ use lib.ListN.{length, getD, take, drop}
 use lib.Seq.{drop-drop}
 use Rattle.runs.proofs.Firsts.{firsts-are}
 use Rattle.model.specs.Dump.{number-of, words-in, words-of}
+use Rattle.dump.specs.declared.reader.ReadWord.{ReadWord}
 
 -- the sum that `word_at` takes
 pub number-at : (bs : List ℕ) (at a b c d e f g h : ℕ) → at + 8 ≤ length bs
@@ -48,3 +49,14 @@ word-in (suc n) (suc i) bs h =
 
 pub word-is : (bs : List ℕ) (i : ℕ) → i < length bs / 8 → number-of (take 8 (drop (8 * i) bs)) ≡ getD (words-of bs) i 0
 word-is bs i h = sym (word-in (length bs / 8) i bs h)
+
+-- ---- three words that were read one after the other, by the position of the first
+pub three-read : (ws : List ℕ) (p : ℕ) (a b c : ReadWord) → (a .word ≡ getD ws p 0) × (a .next ≡ p + 1)
+    → (b .word ≡ getD ws (a .next) 0) × (b .next ≡ a .next + 1) → (c .word ≡ getD ws (b .next) 0) × (c .next ≡ b .next + 1)
+    → (b .word ≡ getD ws (p + 1) 0) × (c .word ≡ getD ws (p + 2) 0) × (c .next ≡ p + 3)
+three-read ws p a b c x y z =
+    let i = x .1 in
+    let j = y .1 in
+    let k : b .next ≡ p + 2 = omega arith in
+    let l : c .next ≡ p + 3 = let m = z .1 in omega arith in
+    (rw i at (y .0), rw k at (z .0), l)

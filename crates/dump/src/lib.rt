@@ -1,5 +1,6 @@
-// A register's dump: its bytes as words, the walk over what a dump holds, and the writing of one.
+// A register's dump: its bytes as words, a reader of them, the walk over what a dump holds, and the writing of one.
 mod octets;
+mod reader;
 mod walk;
 mod write;
 

@@ -1,6 +1,6 @@
 // The walk over what a dump holds, by word positions: a floor, then for each class a count and so many generations, each of three
 // words (bucket, newest, length) and its fingerprints.
-use crate::octets::word;
+use crate::reader::read;
 use model::Bucket;
 ghost use mathlib.Core.Path.{_≡_};
 ghost use Prim.Native.Nat.{_+_, _/_, _≤_, _<_};
@@ -43,7 +43,8 @@ fn pass_generations(bytes: &[u8], from: usize, n: u64) -> Passed
         if here < 3 {
             return Passed::Short;
         }
-        let long = word(bytes, at + 2);
+        let third = read(bytes, at + 2);
+        let long = third.word;
         if ((here - 3) as u64) < long {
             return Passed::Short;
         }
@@ -61,8 +62,8 @@ fn pass_class(bytes: &[u8], from: usize) -> Passed
     if all <= from {
         return Passed::Short;
     }
-    let n = word(bytes, from);
-    pass_generations(bytes, from + 1, n)
+    let count = read(bytes, from);
+    pass_generations(bytes, count.next, count.word)
 }
 
 // Reads the lengths of a dump, of whatever bytes. Bytes behind it are not looked at.
@@ -88,7 +89,8 @@ pub fn floor_word(bytes: &[u8]) -> u64
     requires { ⌜ 0 < length (now bytes) / 8 ⌝ }
     ensures { λ r. ⌜ r ≡ getD (words-of (now (bytes .entry))) 0 0 ⌝ }
 {
-    word(bytes, 0)
+    let floor = read(bytes, 0);
+    floor.word
 }
 
 // How many generations the class at a word position has. The first of them is one word on.
@@ -96,7 +98,8 @@ pub fn count_at(bytes: &[u8], at: usize) -> u64
     requires { ⌜ at < length (now bytes) / 8 ⌝ }
     ensures { λ r. ⌜ r ≡ getD (words-of (now (bytes .entry))) at 0 ⌝ }
 {
-    word(bytes, at)
+    let count = read(bytes, at);
+    count.word
 }
 
 // The generation at a word position.
@@ -104,14 +107,15 @@ pub fn generation_at(bytes: &[u8], at: usize) -> Found
     requires { ⌜ at + 3 + getD (words-of (now bytes)) (at + 2) 0 ≤ length (now bytes) / 8 ⌝ }
     ensures { λ r. ⌜ FoundAt (words-of (now (bytes .entry))) at r ⌝ }
 {
-    let bucket = word(bytes, at);
-    let newest = word(bytes, at + 1);
-    let length = word(bytes, at + 2) as usize;
+    let bucket = read(bytes, at);
+    let newest = read(bytes, bucket.next);
+    let length = read(bytes, newest.next);
+    let long = length.word as usize;
     Found {
-        bucket: Bucket(bucket),
-        newest: newest,
-        length: length,
-        next: at + 3 + length,
+        bucket: Bucket(bucket.word),
+        newest: newest.word,
+        length: long,
+        next: length.next + long,
     }
 }
 
@@ -120,5 +124,6 @@ pub fn print_at(bytes: &[u8], at: usize, k: usize) -> u64
     requires { ⌜ at + 3 + k < length (now bytes) / 8 ⌝ }
     ensures { λ r. ⌜ r ≡ getD (words-of (now (bytes .entry))) (at + 3 + k) 0 ⌝ }
 {
-    word(bytes, at + 3 + k)
+    let print = read(bytes, at + 3 + k);
+    print.word
 }

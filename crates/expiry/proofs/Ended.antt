@@ -20,7 +20,7 @@ use Rattle.model.specs.Book.{Place, Held, entries-in, units, later-places, expi
 use Rattle.model.specs.BookWords.{encode-place, place-form, class-form}
 use Rattle.model.proofs.Places.{PlacesOk}
 use Rattle.book.specs.declared.totals.Totals.{Totals}
-use Rattle.book.specs.Sums.{totals-of}
+use Rattle.book.specs.Sums.{totals-in, totals-of, expired-to}
 use Rattle.book.specs.ClassRules.{ClassIs, ClassTurns}
 use Rattle.book.proofs.Shifts.{mid-of, put-of}
 use Rattle.book.proofs.ClassWords.{turns-one, flat-long, up-flat, holders-are}
@@ -197,6 +197,22 @@ module _ (b : Shares) (c : Class) (t : ℕ) (ws : List ℕ) (cl : ClassIs b c ws
   pub cut-fits : (k .places ≤ 64) × (k .places * W ≤ getD ws 1 0 * W)
   cut-fits = let g = gap-long in let f = kept-few in let h = all-few in let o = cl .places in let p = done .places in (omega arith, omega arith)
 
+  -- the totals are those of all places, of which no more are kept
+  pub kept-within : (s : Totals) → s ≡ totals-in ws → (k .entries ≤ s .entries) × (k .places ≤ s .holders) × (k .units ≤ s .units)
+  kept-within s e =
+      let l : take (length all) all ≡ all = take-all (length all) all (omega arith) in
+      let fe = rw l at (first-entries b c t (length all) all each-one) in
+      let fu = rw l at (first-units b c t (length all) all) in
+      let fl = kept-few in
+      let d = done in
+      let de = d .entries in
+      let dp = d .places in
+      let du = d .units in
+      let se = ap (λ (z : Totals). z .entries) e ∙ ap (λ (y : List ℕ). getD y 0 0) (cl .is .words) in
+      let sh = ap (λ (z : Totals). z .holders) e ∙ holders-are b c ws cl in
+      let su = ap (λ (z : Totals). z .units) e ∙ ap (λ (y : List ℕ). getD y 2 0) (cl .is .words) in
+      (omega arith, omega arith, omega arith)
+
   module _ (a e : ℕ) (ha : a ≡ 4 + k .places * W) (he : e ≡ 4 + getD ws 1 0 * W) (zs : List ℕ) (is : zs ≡ replicate (length (midOf a (e - a) now)) 0) where
     gap-is : length (done .gap) ≡ e - a
     gap-is = let g = gap-long in omega arith
@@ -219,26 +235,38 @@ module _ (b : Shares) (c : Class) (t : ℕ) (ws : List ℕ) (cl : ClassIs b c ws
         (replicate-append-replicate (length (done .gap)) ((b .places - length all) * W) 0 ∙ ap (λ (n : ℕ). replicate n 0) zeros-are)
         ∙ sym (up-flat c (b .pairs) (b .places) kept (omega arith))
 
-    sums : Totals
-    sums = record { entries = k .entries; holders = k .places; units = k .units; expired = t }
-
-    pub ends : ClassTurns b c (freed-to t) (λ h. tt {0}) ws (k .entries ∷ k .places ∷ k .units ∷ t ∷ drop 4 (putMid a (e - a) now zs)) (tt {0})
-    unfolding sums
-    ends =
+    pub ends : (s left : Totals) → s ≡ totals-in ws → left ≡ expired-to s (s .entries - k .entries) (s .holders - k .places) (s .units - k .units) t
+        → ClassTurns b c (freed-to t) (λ h. tt {0}) ws (left .entries ∷ left .holders ∷ left .units ∷ left .expired ∷ drop 4 (putMid a (e - a) now zs)) (tt {0})
+    ends s left is-read is-left =
         let d = done in
-        let y : sums ≡ totals-of b (freed-to t (cl .is .value)) = λ i. record { entries = d .entries i; holders = d .places i; units = d .units i; expired = t } in
-        turns-one b c ws (cl .is) (class-words b c (freed-to t (cl .is .value)) sums (drop 4 (putMid a (e - a) now zs)) y body) refl
+        let w = kept-within s is-read in
+        let n : s .entries - (s .entries - k .entries) ≡ entries-in kept = let f = d .entries in omega arith in
+        let m : s .holders - (s .holders - k .places) ≡ length kept = let f = d .places in omega arith in
+        let u : s .units - (s .units - k .units) ≡ units b kept = let f = d .units in omega arith in
+        let y : left ≡ totals-of b (freed-to t (cl .is .value)) = is-left ∙ (λ i. record { entries = n i; holders = m i; units = u i; expired = t }) in
+        turns-one b c ws (cl .is) (class-words b c (freed-to t (cl .is .value)) left (drop 4 (putMid a (e - a) now zs)) y body) refl
 
 -- ---- the rule for a clock that stepped back
 module _ (b : Shares) (c : Class) (t : ℕ) (ws : List ℕ) (cl : ClassIs b c ws) where
   expired-is : getD ws 3 0 ≡ cl .is .value .expired
   expired-is = ap (λ (l : List ℕ). getD l 3 0) (cl .is .words)
 
-  pub noted : cap32 (t + 2) < getD ws 3 0 → ClassTurns b c (expire-class t) (λ h. tt {0}) ws (set ws 3 t) (tt {0})
+  pub noted : cap32 (t + 2) < getD ws 3 0 → (s left : Totals) → s ≡ totals-in ws → left ≡ expired-to s 0 0 0 t
+      → ClassTurns b c (expire-class t) (λ h. tt {0}) ws (left .entries ∷ left .holders ∷ left .units ∷ left .expired ∷ drop 4 ws) (tt {0})
   unfolding expire-class
-  noted h =
+  noted h s left is-read is-left =
       let e = lt-ltb (cap32 (t + 2)) (cl .is .value .expired) (let x = expired-is in omega arith) in
-      turns-one b c ws (cl .is) (ap (λ (l : List ℕ). set l 3 t) (cl .is .words) ∙ rw e) refl
+      let was : totals-in ws ≡ totals-of b (cl .is .value) = ap totals-in (cl .is .words) in
+      let none : expired-to s 0 0 0 t ≡ record { entries = s .entries; holders = s .holders; units = s .units; expired = t } =
+      let n : s .entries - 0 ≡ s .entries = omega arith in
+      let m : s .holders - 0 ≡ s .holders = omega arith in
+      let u : s .units - 0 ≡ s .units = omega arith in
+      λ i. record { entries = n i; holders = m i; units = u i; expired = t } in
+      let y : left ≡ totals-of b (record { places = cl .is .value .places; expired = t }) =
+      is-left ∙ none ∙ ap (λ (z : Totals). record { entries = z .entries; holders = z .holders; units = z .units; expired = t }) (is-read ∙ was) in
+      turns-one b c ws (cl .is)
+      (class-words b c (record { places = cl .is .value .places; expired = t }) left (drop 4 ws) y (ap (drop 4) (cl .is .words)) ∙ rw e)
+      refl
 
   module _ (fresh : getD ws 3 0 ≤ cap32 (t + 2)) where
     not-back : ltb (cap32 (t + 2)) (cl .is .value .expired) ≡ false

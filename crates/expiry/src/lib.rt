@@ -16,8 +16,7 @@ use model::Class;
 use model::Second;
 use model::Shares;
 
-// The places kept so far, with their entries and units. Totals are summed up again from what is kept, so that nothing is
-// subtracted from them.
+// The places kept so far, with their entries and units. What the totals lose is what is not kept.
 struct Kept {
     places: usize,
     entries: u64,
@@ -82,11 +81,12 @@ fn expire_places(part: &mut [u64], shares: Shares, class: Class, t: u64) -> Kept
     kept
 }
 
-// All places: what lies between those kept and the end of those in use is cleared, and the totals are those of the places kept.
+// All places: what lies between those kept and the end of those in use is cleared, and the totals lose what is not kept.
 fn expire_pairs(part: &mut [u64], shares: Shares, class: Class, t: u64)
     requires { ⌜ ClassIs shares class (now part) ⌝ }
     ensures { λ _. ⌜ ClassTurns shares class (freed-to t) (λ h. tt {0}) (now (part .entry)) (now (part .exit)) (tt {0}) ⌝ }
 {
+    let sums = totals::read(part);
     let holders = part[1] as usize;
     let width = 2 * (shares.pairs as usize) + 4;
     let kept = expire_places(part, shares, class, t);
@@ -94,13 +94,14 @@ fn expire_pairs(part: &mut [u64], shares: Shares, class: Class, t: u64)
     let a = 4 + places * width;
     let e = 4 + holders * width;
     runs::clear_words(&mut part[a..e]);
-    let sums = totals::Totals {
-        entries: kept.entries,
-        holders: places as u64,
-        units: kept.units,
-        expired: t,
-    };
-    totals::write(part, sums);
+    let left = totals::lent_to_expire(
+        sums,
+        sums.entries - kept.entries,
+        sums.holders - (places as u64),
+        sums.units - kept.units,
+        t,
+    );
+    totals::write(part, left);
 }
 
 // The largest number of 32 bits in place of one that is larger.
@@ -122,7 +123,9 @@ pub fn expire(part: &mut [u64], shares: Shares, class: Class, t: Second)
     let through = t.0;
     let expired = part[3];
     if capped(through + 2) < expired {
-        part[3] = through;
+        let sums = totals::read(part);
+        let left = totals::lent_to_expire(sums, 0, 0, 0, through);
+        totals::write(part, left);
         return;
     }
     if through <= expired {

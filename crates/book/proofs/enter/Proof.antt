@@ -14,7 +14,7 @@ use Rattle.book.proofs.decide.if_none.Reads as if-none-reads
 use Rattle.book.proofs.decide.place_units.Reads as place-units-reads
 use Rattle.book.proofs.enter_place.Reads as enter-place-reads
 use Rattle.book.proofs.totals.read.Reads as read-reads
-use Rattle.book.proofs.totals.take.Reads as take-reads
+use Rattle.book.proofs.totals.lent_to_take.Reads as lent-to-take-reads
 use Rattle.book.proofs.totals.write.Reads as write-reads
 
 -- src/lib.rt:121:9
@@ -34,8 +34,8 @@ read-requires : tie.Need-read-requires
 read-requires c κs = search needs
 
 -- src/lib.rt:125:9
-take-requires : tie.Need-take-requires
-take-requires c κs = let s = c .before .before .before .before .before .before .args in take-asks (s .shares) (s .who) (s .part .now) (s .spot) (c .before .before .before .before .before .before .pre .found .class) _ _ _ _ (c .before .before .before .before .place-units .ensures) (c .before .before .before .if-none .ensures) (c .before .before .if-none2 .ensures) (c .read .ensures)
+lent-to-take-requires : tie.Need-lent-to-take-requires
+lent-to-take-requires c κs = let s = c .before .before .before .before .before .before .args in take-asks (s .shares) (s .who) (s .part .now) (s .spot) (c .before .before .before .before .before .before .pre .found .class) _ _ _ _ (c .before .before .before .before .place-units .ensures) (c .before .before .before .if-none .ensures) (c .before .before .if-none2 .ensures) (c .read .ensures)
 
 -- src/lib.rt:126:5
 enter-place-requires : tie.Need-enter-place-requires
@@ -51,7 +51,7 @@ same-length c = search needs
 
 -- src/lib.rt:117:1
 returns : tie.Need-returns
-returns c = let s = c .before .before .before .before .before .before .before .before .before .before .before .before .before .before .before .args in rw (c .before .before .write .ensures) (enters (s .shares) (s .who) (s .part .now) (s .spot) (c .before .before .before .before .before .before .before .before .before .before .before .before .before .before .before .pre) _ _ _ _ _ _ (c .before .before .before .before .before .before .before .before .before .before .before .before .before .place-units .ensures) (c .before .before .before .before .before .before .before .before .before .before .before .before .if-none .ensures) (c .before .before .before .before .before .before .before .before .before .before .before .if-none2 .ensures) (c .before .before .before .before .before .before .before .before .before .read .ensures) (c .before .before .before .before .before .before .before .before .take .ensures) (c .before .before .before .before .before .before .enter-place .ensures))
+returns c = let s = c .before .before .before .before .before .before .before .before .before .before .before .before .before .before .before .args in rw (c .before .before .write .ensures) (enters (s .shares) (s .who) (s .part .now) (s .spot) (c .before .before .before .before .before .before .before .before .before .before .before .before .before .before .before .pre) _ _ _ _ _ _ (c .before .before .before .before .before .before .before .before .before .before .before .before .before .place-units .ensures) (c .before .before .before .before .before .before .before .before .before .before .before .before .if-none .ensures) (c .before .before .before .before .before .before .before .before .before .before .before .if-none2 .ensures) (c .before .before .before .before .before .before .before .before .before .read .ensures) (c .before .before .before .before .before .before .before .before .lent-to-take .ensures) (c .before .before .before .before .before .before .enter-place .ensures))
 
 pub enter-spec : {M : Type 1} → statement M
 enter-spec =
@@ -61,7 +61,7 @@ enter-spec =
     if-none-requires
     if-none-requires-2
     read-requires
-    take-requires
+    lent-to-take-requires
     enter-place-requires
     write-requires
     same-length

@@ -17,7 +17,7 @@ use Rattle.book.proofs.decide.place_units.Reads as place-units-reads
 use Rattle.book.proofs.find.Reads as find-reads
 use Rattle.book.proofs.return_place.Reads as return-place-reads
 use Rattle.book.proofs.totals.read.Reads as read-reads
-use Rattle.book.proofs.totals.untake.Reads as untake-reads
+use Rattle.book.proofs.totals.lent_to_untake.Reads as lent-to-untake-reads
 use Rattle.book.proofs.totals.write.Reads as write-reads
 
 -- src/lib.rt:194:9
@@ -49,8 +49,8 @@ read-requires : tie.Need-read-requires
 read-requires c κs = search needs
 
 -- src/lib.rt:202:9
-untake-requires : tie.Need-untake-requires
-untake-requires c κs = let s = c .before .before .before .before .before .before .before .before .before .before .args in untake-asks (s .shares) (s .who) (s .part .now) _ (found-of (s .shares) (s .who) (s .second .0) (s .part .now) (c .before .before .before .before .before .before .before .before .before .before .pre) _ (c .before .before .before .before .before .before .before .find .ensures)) (not-false _ (c .before .before .before .before .before .if1 .left)) _ _ _ _ (c .before .before .before .before .place-units .ensures) (c .before .before .before .if-one .ensures) (c .before .before .if-one2 .ensures) (c .read .ensures)
+lent-to-untake-requires : tie.Need-lent-to-untake-requires
+lent-to-untake-requires c κs = let s = c .before .before .before .before .before .before .before .before .before .before .args in untake-asks (s .shares) (s .who) (s .part .now) _ (found-of (s .shares) (s .who) (s .second .0) (s .part .now) (c .before .before .before .before .before .before .before .before .before .before .pre) _ (c .before .before .before .before .before .before .before .find .ensures)) (not-false _ (c .before .before .before .before .before .if1 .left)) _ _ _ _ (c .before .before .before .before .place-units .ensures) (c .before .before .before .if-one .ensures) (c .before .before .if-one2 .ensures) (c .read .ensures)
 
 -- src/lib.rt:203:5
 return-place-requires : tie.Need-return-place-requires
@@ -66,7 +66,7 @@ same-length-2 c = search needs
 
 -- src/lib.rt:190:1
 returns-2 : tie.Need-returns-2
-returns-2 c = let s = c .before .before .before .before .before .before .before .before .before .before .before .before .before .before .before .before .before .before .before .args in rw (c .before .before .write .ensures) (untakes (s .shares) (s .who) (s .second .0) (s .part .now) (c .before .before .before .before .before .before .before .before .before .before .before .before .before .before .before .before .before .before .before .pre) _ (c .before .before .before .before .before .before .before .before .before .before .before .before .before .before .before .before .find .ensures) (not-false _ (c .before .before .before .before .before .before .before .before .before .before .before .before .before .before .if1 .left)) _ _ _ _ _ _ (c .before .before .before .before .before .before .before .before .before .before .before .before .before .place-units .ensures) (c .before .before .before .before .before .before .before .before .before .before .before .before .if-one .ensures) (c .before .before .before .before .before .before .before .before .before .before .before .if-one2 .ensures) (c .before .before .before .before .before .before .before .before .before .read .ensures) (c .before .before .before .before .before .before .before .before .untake .ensures) (c .before .before .before .before .before .before .return-place .ensures))
+returns-2 c = let s = c .before .before .before .before .before .before .before .before .before .before .before .before .before .before .before .before .before .before .before .args in rw (c .before .before .write .ensures) (untakes (s .shares) (s .who) (s .second .0) (s .part .now) (c .before .before .before .before .before .before .before .before .before .before .before .before .before .before .before .before .before .before .before .pre) _ (c .before .before .before .before .before .before .before .before .before .before .before .before .before .before .before .before .find .ensures) (not-false _ (c .before .before .before .before .before .before .before .before .before .before .before .before .before .before .if1 .left)) _ _ _ _ _ _ (c .before .before .before .before .before .before .before .before .before .before .before .before .before .place-units .ensures) (c .before .before .before .before .before .before .before .before .before .before .before .before .if-one .ensures) (c .before .before .before .before .before .before .before .before .before .before .before .if-one2 .ensures) (c .before .before .before .before .before .before .before .before .before .read .ensures) (c .before .before .before .before .before .before .before .before .lent-to-untake .ensures) (c .before .before .before .before .before .before .return-place .ensures))
 
 pub untake-spec : {M : Type 1} → statement M
 untake-spec =
@@ -79,7 +79,7 @@ untake-spec =
     if-one-requires
     if-one-requires-2
     read-requires
-    untake-requires
+    lent-to-untake-requires
     return-place-requires
     write-requires
     same-length-2

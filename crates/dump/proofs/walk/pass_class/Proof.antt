@@ -9,11 +9,8 @@ use Rattle.dump.proofs.walk.pass_class.Tie as tie
 returns : tie.Need-returns
 returns c = let s = c .before .before .args in class-far (words-of (s .bytes .now)) _ (s .from) (c .if1 .taken)
 
-word-requires : tie.Need-word-requires
-word-requires c κs = search needs
-
-add-pass-generations : tie.Need-add-pass-generations
-add-pass-generations c = search needs
+read-requires : tie.Need-read-requires
+read-requires c κs = search needs
 
 pass-generations-requires : tie.Need-pass-generations-requires
 pass-generations-requires c κs = search needs
@@ -21,9 +18,9 @@ pass-generations-requires c κs = search needs
 returns-2 : tie.Need-returns-2
 returns-2 c =
     let s = c .before .before .before .before .args in
-    c .pass-generations .ensures ∙ class-passed (words-of (s .bytes .now)) _ (s .from) _ (c .before .word .ensures)
+    rw (c .before .read .ensures .1) at (c .pass-generations .ensures) ∙ class-passed (words-of (s .bytes .now)) _ (s .from) _ (c .before .read .ensures .0)
 
 pub pass-class-spec : {M : Type 1} → statement M
 pass-class-spec =
     tie.close
-    (tie.spec returns word-requires add-pass-generations pass-generations-requires returns-2)
+    (tie.spec returns read-requires pass-generations-requires returns-2)

@@ -28,17 +28,17 @@ returns c =
     let l = c .before .before .loop in
     pass-few (words-of (s .bytes .now)) _ (s .from) (s .n) (l .at) (l .left) (l .inv .1) (omega arith) (c .if1 .taken)
 
-add-word : tie.Need-add-word Inv-loop μ-loop
-add-word c = search needs
+add-read : tie.Need-add-read Inv-loop μ-loop
+add-read c = search needs
 
-word-requires : tie.Need-word-requires Inv-loop μ-loop
-word-requires c κs = search needs
+read-requires : tie.Need-read-requires Inv-loop μ-loop
+read-requires c κs = search needs
 
 returns-2 : tie.Need-returns-2 Inv-loop μ-loop
 returns-2 c =
     let s = c .before .before .before .before .before .before .args in
     let l = c .before .before .before .before .loop in
-    pass-long (words-of (s .bytes .now)) _ (s .from) (s .n) (l .at) (l .left) (l .inv .1) _ (c .before .word .ensures) (omega arith) (c .if2 .taken)
+    pass-long (words-of (s .bytes .now)) _ (s .from) (s .n) (l .at) (l .left) (l .inv .1) _ (c .before .read .ensures .0) (omega arith) (c .if2 .taken)
 
 add-at : tie.Need-add-at Inv-loop μ-loop
 add-at c = search needs
@@ -56,7 +56,7 @@ loop-again : tie.Need-loop-again Inv-loop μ-loop
 loop-again c =
     let s = c .before .before .before .before .before .before .args in
     let l = c .before .before .before .before .loop in
-    (omega arith, pass-on (words-of (s .bytes .now)) (length (s .bytes .now) / 8) (s .from) (s .n) (l .at) (l .left) (l .inv .1) _ (c .before .word .ensures) (omega arith))
+    (omega arith, pass-on (words-of (s .bytes .now)) (length (s .bytes .now) / 8) (s .from) (s .n) (l .at) (l .left) (l .inv .1) _ (c .before .read .ensures .0) (omega arith))
 
 returns-3 : tie.Need-returns-3 Inv-loop μ-loop
 returns-3 c =
@@ -73,8 +73,8 @@ pass-generations-spec =
     loop-holds
     sub-here
     returns
-    add-word
-    word-requires
+    add-read
+    read-requires
     returns-2
     add-at
     add-at-2
