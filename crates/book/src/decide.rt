@@ -9,6 +9,7 @@ use model::Deliverer;
 use model::Draw;
 use model::Limits;
 use model::Shares;
+use numbers::codes;
 
 // n for a deliverer that holds nothing, else 0.
 pub fn if_none(held: u64, n: u64) -> u64
@@ -60,17 +61,6 @@ pub fn units_of(shares: Shares, class: Class, kind: u64) -> u64
         return shares.peer;
     }
     own_units(shares, class)
-}
-
-fn class_of(who: Deliverer) -> Class
-    ensures { λ r. ⌜ r ≡ class-of who ⌝ }
-{
-    match who {
-        Deliverer::Feeder(_) => Class::Feeders,
-        Deliverer::Peer(_) => Class::Peers,
-        Deliverer::Relay => Class::Own,
-        Deliverer::Restored(class) => class,
-    }
 }
 
 // The limit of a class.
@@ -141,7 +131,7 @@ pub fn judge(
     if !below_share(limits, who, held) {
         return Draw::OwnShare;
     }
-    let t = class_limit(limits, class_of(who));
+    let t = class_limit(limits, codes::class_of(who));
     if units <= t {
         return room;
     }

@@ -2,10 +2,8 @@
 use crate::octets::put_word;
 use generation::Generation;
 ghost use mathlib.Core.Path.{_≡_};
-ghost use mathlib.Core.Bool.{cond};
 ghost use mathlib.Core.List.{[], _∷_, _++_};
 ghost use Prim.Native.Nat.{_+_, _*_, _≤_, _<_};
-ghost use lib.Dec.{eqb};
 ghost use lib.ListN.{length, getD};
 ghost use Rattle.model.specs.Dump.{fingerprints};
 ghost use Rattle.generation.specs.Words.{Bounded};
@@ -78,16 +76,6 @@ fn generation_length(part: &[u64]) -> usize
     held + 3
 }
 
-// 1 for a generation that is held, and 0 for one that is not.
-fn one_if_held(held: u64) -> u64
-    ensures { λ r. ⌜ r ≡ cond (eqb held 0) 0 1 ⌝ }
-{
-    if held == 0 {
-        return 0;
-    }
-    1
-}
-
 // ---- one class: a ring of generations, each of `wide` words
 
 // How many of them are held.
@@ -99,7 +87,7 @@ fn count_held(words: &[u64], wide: usize, ring: usize) -> u64
     let mut a = 0;
     let mut left = ring;
     while 0 < left {
-        let one = one_if_held(words[a + 1]);
+        let one = generation::one_if_held(words[a + 1]);
         n += one;
         a += wide;
         left -= 1;

@@ -3,7 +3,7 @@
 ghost use Prim.Native.Nat.{_+_, _*_, _≤_};
 ghost use mathlib.Core.Path.{_≡_};
 ghost use lib.ListN.{length, getD};
-ghost use Rattle.model.specs.Numbers.{cap32, top32};
+ghost use Rattle.model.specs.Numbers.{top32};
 ghost use Rattle.model.specs.Book.{expire-class};
 ghost use Rattle.model.specs.BookWords.{most-entries};
 ghost use Rattle.book.specs.ClassRules.{ClassIs, ClassTurns};
@@ -15,6 +15,7 @@ use book::totals;
 use model::Class;
 use model::Second;
 use model::Shares;
+use numbers::capped;
 
 // The places kept so far, with their entries and units. What the totals lose is what is not kept.
 struct Kept {
@@ -104,16 +105,6 @@ fn expire_pairs(part: &mut [u64], shares: Shares, class: Class, t: u64)
     totals::write(part, left);
 }
 
-// The largest number of 32 bits in place of one that is larger.
-fn capped(n: u64) -> u64
-    ensures { λ r. ⌜ r ≡ cap32 n ⌝ }
-{
-    if n <= 4294967295 {
-        return n;
-    }
-    4294967295
-}
-
 // Expires a class up to a second. Where the clock stepped back by more than two seconds the class only takes note of it, and
 // nothing is freed; where it has not moved on nothing happens; else the pairs before the second go.
 pub fn expire(part: &mut [u64], shares: Shares, class: Class, t: Second)
@@ -122,7 +113,7 @@ pub fn expire(part: &mut [u64], shares: Shares, class: Class, t: Second)
 {
     let through = t.0;
     let expired = part[3];
-    if capped(through + 2) < expired {
+    if capped::capped_to_32(through + 2) < expired {
         let sums = totals::read(part);
         let left = totals::lent_to_expire(sums, 0, 0, 0, through);
         totals::write(part, left);

@@ -19,6 +19,7 @@ mod sound;
 
 pub use slots::find;
 pub use sound::is_sound;
+pub use sound::one_if_held;
 
 // The four words that lead a generation's run.
 pub struct Generation {

@@ -10,8 +10,8 @@ ghost use lib.Dec.{eqb};
 ghost use lib.ListN.{length};
 ghost use Rattle.model.specs.GenerationWords.{reached, slots-sound, filled-sound, generation-sound};
 
-// 1 for a slot that is held, and 0 for an empty one.
-fn one_if_held(word: u64) -> u64
+// 1 for a number that is not 0, as of a slot that is held or of how many a generation holds, else 0.
+pub fn one_if_held(word: u64) -> u64
     ensures { λ r. ⌜ r ≡ cond (eqb word 0) 0 1 ⌝ }
 {
     if word == 0 {

@@ -72,30 +72,22 @@ module _ (s : Settings) (f0 : fit-at s 0 ≡ true) (f1 : fit-at s 1 ≡ true) (f
       omega (arith, one s 0 f0 (omega arith), one s 1 f1 (omega arith), one s 2 f2 (omega arith), one s 3 f3 (omega arith))
   sum-of (suc (suc (suc (suc (suc n))))) e h = absurd (omega arith)
 
-pub needed-is : (s : Settings) → settings-fit s ≡ true → (book : ℕ) → book ≡ cond (shares-fit (s .shares)) (book-words (s .shares)) 0
+pub needed-is : (s : Settings) → settings-fit s ≡ true → (book : ℕ) → book ≡ book-words (s .shares)
     → words-for s 0 + words-for s 1 + words-for s 2 + words-for s 3 + book + 128 ≡ words-needed s
 unfolding settings-fit words-needed
 needed-is s fit book b =
     let p = each-true (between 1 4 (s .registers)) (shares-fit (s .shares) ∷ fit-at s 0 ∷ fit-at s 1 ∷ fit-at s 2 ∷ fit-at s 3 ∷ []) fit in
     let q = both-true (leb 1 (s .registers)) (leb (s .registers) 4) (p .0) in
     let e = sum-of s (p .1 .1 .0) (p .1 .1 .1 .0) (p .1 .1 .1 .1 .0) (p .1 .1 .1 .1 .1) (s .registers) refl (leb-true (s .registers) 4 (q .1)) in
-    let g : book ≡ book-words (s .shares) = rw (p .1 .0) at b in
     omega arith
 
--- ---- as the code has it: the test's answer, and what it then computes
-module _ (u : Usable) (ok : Bool) (e : ok ≡ usable-fit u) where
-  pub register-none : ok ≡ false → (0 ≡ cond (usable-fit u) (register-words u) 0) × (0 ≤ 789_504)
-  register-none f = let k : usable-fit u ≡ false = sym e ∙ f in (rw k, omega arith)
+-- ---- as the code has it
+pub register-some : (u : Usable) → usable-fit u ≡ true → (ring : ℕ) → ring ≡ ring-of u
+    → (3 * ring * (u .slots + 4) ≡ register-words u) × (3 * ring * (u .slots + 4) ≤ 789_504)
+unfolding register-words
+register-some u fit ring r = (rw r, rw r (usable-few u fit .words))
 
-  pub register-some : ok ≡ true → (ring : ℕ) → ring ≡ ring-of u
-      → (3 * ring * (u .slots + 4) ≡ cond (usable-fit u) (register-words u) 0) × (3 * ring * (u .slots + 4) ≤ 789_504)
-  unfolding register-words
-  register-some t ring r = let k : usable-fit u ≡ true = sym e ∙ t in (rw (k, r), rw r (usable-few u k .words))
-
-module _ (b : Shares) (ok : Bool) (e : ok ≡ shares-fit b) where
-  pub book-none : ok ≡ false → (0 ≡ cond (shares-fit b) (book-words b) 0) × (0 ≤ 197_376)
-  book-none f = let k : shares-fit b ≡ false = sym e ∙ f in (rw k, omega arith)
-
-  pub book-some : ok ≡ true → (3 * (b .places) * (2 * (b .pairs) + 4) ≡ cond (shares-fit b) (book-words b) 0) × (3 * (b .places) * (2 * (b .pairs) + 4) ≤ 197_376)
-  unfolding book-words
-  book-some t = let k : shares-fit b ≡ true = sym e ∙ t in (rw k, shares-few b k .words)
+pub book-some : (b : Shares) → shares-fit b ≡ true
+    → (3 * (b .places) * (2 * (b .pairs) + 4) ≡ book-words b) × (3 * (b .places) * (2 * (b .pairs) + 4) ≤ 197_376)
+unfolding book-words
+book-some b fit = (refl, shares-few b fit .words)

@@ -6,7 +6,7 @@ use model::Shares;
 use model::Usable;
 use model::Window;
 ghost use mathlib.Core.Path.{_≡_};
-ghost use mathlib.Core.Bool.{cond};
+ghost use mathlib.Core.Bool.{true, cond};
 ghost use Prim.Native.Nat.{_<_, _≤_};
 ghost use lib.Dec.{ltb};
 ghost use lib.ListN.{length};
@@ -171,20 +171,18 @@ pub fn settings_fit(s: Settings) -> bool
     ((1 <= s.registers) & (s.registers <= 4)) & (shares & (a & (b & (c & d))))
 }
 
-// The words of one register's rings; 0 where its settings are out of bounds. The bound keeps the sums below from wrapping.
+// The words of one register's rings. The bound keeps the sums below from wrapping.
 fn register_words(u: Usable) -> u64
-    ensures { λ r. ⌜ (r ≡ cond (usable-within u) (register-words u) 0) × (r ≤ 789_504) ⌝ }
+    requires { ⌜ usable-within u ≡ true ⌝ }
+    ensures { λ r. ⌜ (r ≡ register-words u) × (r ≤ 789_504) ⌝ }
 {
-    if !usable_fit(u) {
-        return 0;
-    }
     let ring = spans::ring_of(u);
     3 * ring * (u.slots + 4)
 }
 
 // The same for a register by its number; 0 where there is no such register.
 fn words_at(s: Settings, r: usize) -> u64
-    requires { ⌜ r < 4 ⌝ }
+    requires { ⌜ (r < 4) × (settings-within s ≡ true) ⌝ }
     ensures { λ n. ⌜ (n ≡ words-for s r) × (n ≤ 789_504) ⌝ }
 {
     if s.registers <= (r as u64) {
@@ -193,23 +191,19 @@ fn words_at(s: Settings, r: usize) -> u64
     register_words(usable_in(s, r))
 }
 
-// The words of the share book's places; 0 where its settings are out of bounds.
+// The words of the share book's places.
 fn book_words(b: Shares) -> u64
-    ensures { λ r. ⌜ (r ≡ cond (shares-within b) (places-words b) 0) × (r ≤ 197_376) ⌝ }
+    requires { ⌜ shares-within b ≡ true ⌝ }
+    ensures { λ r. ⌜ (r ≡ places-words b) × (r ≤ 197_376) ⌝ }
 {
-    if !shares_fit(b) {
-        return 0;
-    }
     3 * b.places * (2 * b.pairs + 4)
 }
 
-// The words that settings need; 0 where they are out of bounds.
+// The words that settings in bounds need.
 pub fn words_needed(s: Settings) -> u64
-    ensures { λ n. ⌜ n ≡ cond (settings-within s) (needed s) 0 ⌝ }
+    requires { ⌜ settings-within s ≡ true ⌝ }
+    ensures { λ n. ⌜ n ≡ needed s ⌝ }
 {
-    if !settings_fit(s) {
-        return 0;
-    }
     let a = words_at(s, 0);
     let b = words_at(s, 1);
     let c = words_at(s, 2);

@@ -52,17 +52,6 @@ pub fn class_of(who: Deliverer) -> Class
     }
 }
 
-pub fn kind_of(who: Deliverer) -> u64
-    ensures { λ r. ⌜ r ≡ kind-for who ⌝ }
-{
-    match who {
-        Deliverer::Feeder(_) => 0,
-        Deliverer::Peer(_) => 1,
-        Deliverer::Relay => 2,
-        Deliverer::Restored(_) => 3,
-    }
-}
-
 pub fn deliverer_fits(kind: u64, number: u64) -> bool
     ensures { λ r. ⌜ r ≡ listed-deliverer kind number ⌝ }
 {

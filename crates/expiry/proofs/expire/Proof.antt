@@ -7,7 +7,7 @@ use Rattle.expiry.proofs.expire.Lts as lts
 use Rattle.book.proofs.totals.lent_to_expire.Reads as lent-to-expire-reads
 use Rattle.book.proofs.totals.read.Reads as read-reads
 use Rattle.book.proofs.totals.write.Reads as write-reads
-use Rattle.expiry.proofs.capped.Reads as capped-reads
+use Rattle.numbers.proofs.capped.capped_to_32.Reads as capped-to-32-reads
 use Rattle.expiry.proofs.expire_pairs.Reads as expire-pairs-reads
 
 -- src/lib.rt:124:19
@@ -15,12 +15,12 @@ slice-read-expired : tie.Need-slice-read-expired
 slice-read-expired c = search needs
 
 -- src/lib.rt:125:15
-add-capped : tie.Need-add-capped
-add-capped c = search needs
+add-capped-to-32 : tie.Need-add-capped-to-32
+add-capped-to-32 c = search needs
 
 -- src/lib.rt:125:8
-capped-requires : tie.Need-capped-requires
-capped-requires c κs = search needs
+capped-to-32-requires : tie.Need-capped-to-32-requires
+capped-to-32-requires c κs = search needs
 
 -- src/lib.rt:126:13
 read-requires : tie.Need-read-requires
@@ -40,11 +40,11 @@ same-length c = search needs
 
 -- src/lib.rt:129:9
 returns : tie.Need-returns
-returns c = let s = c .before .before .before .before .before .before .before .before .before .before .before .args in rw (c .before .before .write .ensures) (noted (s .shares) (s .class) (s .t .0) (s .part .now) (c .before .before .before .before .before .before .before .before .before .before .before .pre .0) (rw (c .before .before .before .before .before .before .before .before .capped .ensures) at (c .before .before .before .before .before .before .before .if1 .taken)) _ _ (c .before .before .before .before .before .read .ensures) (c .before .before .before .before .lent-to-expire .ensures))
+returns c = let s = c .before .before .before .before .before .before .before .before .before .before .before .args in rw (c .before .before .write .ensures) (noted (s .shares) (s .class) (s .t .0) (s .part .now) (c .before .before .before .before .before .before .before .before .before .before .before .pre .0) (rw (c .before .before .before .before .before .before .before .before .capped-to-32 .ensures) at (c .before .before .before .before .before .before .before .if1 .taken)) _ _ (c .before .before .before .before .before .read .ensures) (c .before .before .before .before .lent-to-expire .ensures))
 
 -- src/lib.rt:132:9
 returns-2 : tie.Need-returns-2
-returns-2 c = let s = c .before .before .before .before .before .args in waits (s .shares) (s .class) (s .t .0) (s .part .now) (c .before .before .before .before .before .pre .0) (rw (c .before .before .capped .ensures) at (c .before .if1 .left)) (c .if2 .taken)
+returns-2 c = let s = c .before .before .before .before .before .args in waits (s .shares) (s .class) (s .t .0) (s .part .now) (c .before .before .before .before .before .pre .0) (rw (c .before .before .capped-to-32 .ensures) at (c .before .if1 .left)) (c .if2 .taken)
 
 -- src/lib.rt:134:5
 expire-pairs-requires : tie.Need-expire-pairs-requires
@@ -56,15 +56,15 @@ same-length-2 c = search needs
 
 -- src/lib.rt:119:1
 returns-3 : tie.Need-returns-3
-returns-3 c = let s = c .before .before .before .before .before .before .before .before .before .args in moves-on (s .shares) (s .class) (s .t .0) (s .part .now) (c .before .before .before .before .before .before .before .before .before .pre .0) (rw (c .before .before .before .before .before .before .capped .ensures) at (c .before .before .before .before .before .if1 .left)) (c .before .before .before .before .if2 .left) _ (c .before .before .expire-pairs .ensures)
+returns-3 c = let s = c .before .before .before .before .before .before .before .before .before .args in moves-on (s .shares) (s .class) (s .t .0) (s .part .now) (c .before .before .before .before .before .before .before .before .before .pre .0) (rw (c .before .before .before .before .before .before .capped-to-32 .ensures) at (c .before .before .before .before .before .if1 .left)) (c .before .before .before .before .if2 .left) _ (c .before .before .expire-pairs .ensures)
 
 pub expire-spec : {M : Type 1} → statement M
 expire-spec =
     tie.close
     (tie.spec
     slice-read-expired
-    add-capped
-    capped-requires
+    add-capped-to-32
+    capped-to-32-requires
     read-requires
     lent-to-expire-requires
     write-requires

@@ -16,7 +16,7 @@ use Rattle.book.proofs.decide.judge.Reads as reads
 use Rattle.book.proofs.decide.judge.Lts as lts
 use Rattle.book.proofs.decide.below_share.Reads as below-share-reads
 use Rattle.book.proofs.decide.class_limit.Reads as class-limit-reads
-use Rattle.book.proofs.decide.class_of.Reads as class-of-reads
+use Rattle.numbers.proofs.codes.class_of.Reads as class-of-reads
 use Rattle.book.proofs.decide.is_fair.Reads as is-fair-reads
 
 -- src/decide.rt:116:9

@@ -1,5 +1,4 @@
-use mathlib.Core.Path.{sym, _∙_}
-use borrow.Author.Tests.{not-true, not-false}
+use Rattle.model.proofs.Bounds.{fit-shares}
 use Rattle.numbers.proofs.Needed.{needed-is}
 use borrow.Author.Needs.{needs}
 use Rattle.numbers.proofs.bounds.words_needed.Statement.{statement}
@@ -7,67 +6,56 @@ use Rattle.numbers.proofs.bounds.words_needed.Tie as tie
 use Rattle.numbers.proofs.bounds.words_needed.Reads as reads
 use Rattle.numbers.proofs.bounds.words_needed.Lts as lts
 use Rattle.numbers.proofs.bounds.book_words.Reads as book-words-reads
-use Rattle.numbers.proofs.bounds.settings_fit.Reads as settings-fit-reads
 use Rattle.numbers.proofs.bounds.words_at.Reads as words-at-reads
 
--- src/bounds.rt:202:9
-settings-fit-requires : tie.Need-settings-fit-requires
-settings-fit-requires c κs = search needs
-
--- src/bounds.rt:203:9
-returns : tie.Need-returns
-returns c = rw (sym (c .before .settings-fit .ensures) ∙ not-true _ (c .if1 .taken))
-
--- src/bounds.rt:205:9
+-- src/bounds.rt:207:9
 words-at-requires : tie.Need-words-at-requires
 words-at-requires c κs = search needs
 
--- src/bounds.rt:206:9
+-- src/bounds.rt:208:9
 words-at-requires-2 : tie.Need-words-at-requires-2
 words-at-requires-2 c κs = search needs
 
--- src/bounds.rt:207:9
+-- src/bounds.rt:209:9
 words-at-requires-3 : tie.Need-words-at-requires-3
 words-at-requires-3 c κs = search needs
 
--- src/bounds.rt:208:9
+-- src/bounds.rt:210:9
 words-at-requires-4 : tie.Need-words-at-requires-4
 words-at-requires-4 c κs = search needs
 
--- src/bounds.rt:209:9
+-- src/bounds.rt:211:9
 book-words-requires : tie.Need-book-words-requires
-book-words-requires c κs = search needs
+book-words-requires c κs = fit-shares (c .before .before .before .before .args .s) (c .before .before .before .before .pre)
 
--- src/bounds.rt:210:5
+-- src/bounds.rt:212:5
 add-result : tie.Need-add-result
 add-result c = search needs
 
--- src/bounds.rt:210:5
+-- src/bounds.rt:212:5
 add-result-2 : tie.Need-add-result-2
 add-result-2 c = search needs
 
--- src/bounds.rt:210:5
+-- src/bounds.rt:212:5
 add-result-3 : tie.Need-add-result-3
 add-result-3 c = search needs
 
--- src/bounds.rt:210:5
+-- src/bounds.rt:212:5
 add-result-4 : tie.Need-add-result-4
 add-result-4 c = search needs
 
--- src/bounds.rt:210:5
+-- src/bounds.rt:212:5
 add-result-5 : tie.Need-add-result-5
 add-result-5 c = search needs
 
--- src/bounds.rt:199:1
-returns-2 : tie.Need-returns-2
-returns-2 c = let fit = sym (c .before .before .before .before .before .before .settings-fit .ensures) ∙ not-false _ (c .before .before .before .before .before .if1 .left) in rw (fit, c .before .before .before .before .words-at .ensures .0, c .before .before .before .words-at2 .ensures .0, c .before .before .words-at3 .ensures .0, c .before .words-at4 .ensures .0) (needed-is (c .before .before .before .before .before .before .before .args .s) fit _ (c .book-words .ensures .0))
+-- src/bounds.rt:203:1
+returns : tie.Need-returns
+returns c = rw (c .before .before .before .before .words-at .ensures .0, c .before .before .before .words-at2 .ensures .0, c .before .before .words-at3 .ensures .0, c .before .words-at4 .ensures .0) (needed-is (c .before .before .before .before .before .args .s) (c .before .before .before .before .before .pre) _ (c .book-words .ensures .0))
 
 pub words-needed-spec : {M : Type 1} → statement M
 words-needed-spec =
     tie.close
     (tie.spec
-    settings-fit-requires
-    returns
     words-at-requires
     words-at-requires-2
     words-at-requires-3
@@ -78,4 +66,4 @@ words-needed-spec =
     add-result-3
     add-result-4
     add-result-5
-    returns-2)
+    returns)

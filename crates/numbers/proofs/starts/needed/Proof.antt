@@ -11,7 +11,7 @@ words-needed-requires c κs = search needs
 
 -- src/starts.rt:13:1
 returns : tie.Need-returns
-returns c = rw (c .before .pre) at (c .words-needed .ensures)
+returns c = c .words-needed .ensures
 
 pub needed-spec : {M : Type 1} → statement M
 needed-spec = tie.close (tie.spec words-needed-requires returns)
