@@ -47,7 +47,7 @@ FAULTS = {
         ("numbers/src/spans.rt", "capped::ceil_div(capped::capped_mul(bucket.0, width), 1000)",
          "capped::capped_mul(bucket.0, width) / 1000"),
     ],
-    "newest-not-kept": [(GENERATION, "let newest = larger(head.newest, stamp);", "let newest = stamp;")],
+    "newest-not-kept": [(GENERATION, "let newest = capped::larger(head.newest, stamp);", "let newest = stamp;")],
     "position-clash-overwritten": [
         (GENERATION, "if (part[3] != bucket.0) & (part[1] != 0) {", "if (part[3] != bucket.0) & (part[1] == 18446744073709551615) {"),
         (GENERATION, "    grow(part, known);\n    enter(", "    if part[3] != bucket.0 {\n        drop_all(part);\n    }\n    grow(part, known);\n    enter("),
