@@ -13,11 +13,9 @@ run: build/strikes
 test:
 	@bash .ci/run
 
-# The register as an archive for C and Rust. `rt` proves it first; where it is there already it is taken as it is.
+# The register as an archive for C and Rust, proved first; where it is there already it is taken as it is.
 build/libstrikes.a:
-	@mkdir -p build
-	rt staticlib strikes_c
-	cp target/staticlib/libstrikes_c.a $@
+	@hosts/archive
 
 # The host programs: the register as a program (demo, replay, view, soak), and a small gateway in C.
 build/strikes: build/libstrikes.a $(wildcard hosts/*/src/*.rs hosts/*/src/*/*.rs tests/calls/src/*.rs tests/generator/src/*.rs tests/generator/src/*/*.rs)

@@ -12,10 +12,13 @@ what counts is the program compiled at -O3. Status 0 only if the source without 
 import shutil
 import subprocess
 import sys
+import tempfile
 from pathlib import Path
 
 ROOT = Path(__file__).resolve().parent.parent.parent
-COPY = ROOT / "build/faults/product"
+# Outside the repository, whose every source must be in a crate that is proved.
+FOLDER = tempfile.TemporaryDirectory()
+COPY = Path(FOLDER.name) / "product"
 
 DECIDE = "book/src/decide.rt"
 GENERATION = "generation/src/lib.rt"
@@ -31,8 +34,8 @@ FAULTS = {
     # Drawn before room is looked for, and not given back where there is none.
     "share-not-given-back": [
         ("taking/src/lib.rt", "    shares::enter(run, s, ticket, spot);\n    whole::strike", "    whole::strike"),
-        ("taking/src/lib.rt", "    let room = whole::room(run, s, r, ticket);",
-         "    shares::enter(run, s, ticket, spot);\n    let room = whole::room(run, s, r, ticket);"),
+        ("taking/src/lib.rt", "    let room = whole::room(run, s, r, place, ticket);",
+         "    shares::enter(run, s, ticket, spot);\n    let room = whole::room(run, s, r, place, ticket);"),
     ],
     "growth-forgets-one": [
         ("generation/src/slots.rt", "    let mut i = 0;\n    while i < old.len()", "    let mut i = 1;\n    while i < old.len()"),

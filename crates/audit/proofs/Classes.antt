@@ -1,5 +1,5 @@
 -- A class: its places lie behind four words, and what the two loops answer is its test.
-use Prim.Native.Nat.{ℕ, zero, _-_}
+use Prim.Native.Nat.{ℕ, _-_}
 use native.Mathlib.Nat.{zero-add, zero-mul}
 use native.Mathlib.Omega.{arith}
 use mathlib.Core.Path.{_≡_, refl, _∙_, ap}
@@ -8,32 +8,23 @@ use mathlib.Core.List.{List, [], _∷_}
 use lib.ListN.{length, getD, take, drop, length-drop}
 use lib.Seq.{take-all}
 use lib.Dec.{leb, eqb}
-use borrow.Author.Tests.{leb-true}
 use Rattle.runs.specs.Words.{sameWords}
 use Rattle.runs.specs.Combine.{readUp, testUp}
-use Rattle.runs.proofs.Cases.{both-true, each-true}
 use Rattle.model.specs.declared.Class.{Class}
 use Rattle.model.specs.declared.Shares.{Shares}
-use Rattle.model.specs.Numbers.{top32, between}
+use Rattle.model.specs.Numbers.{top32}
 use Rattle.model.specs.Settings.{shares-fit}
 use Rattle.model.specs.Book.{Place, entries-in, units}
 use Rattle.model.specs.BookWords.{most-entries, place-form, used-place, distinct, class-form}
 use Rattle.model.specs.Words.{class-width}
+use Rattle.model.proofs.Bounds.{shares-bounds}
 use Rattle.audit.specs.Spot.{Few, Within, read-from, test-from, totals-rule}
 use Rattle.audit.proofs.Sums.{summed}
 
 pub few-of : (b : Shares) → shares-fit b ≡ true → Few b
-unfolding shares-fit
 few-of b fit =
-    let p = each-true (between 1 64 (b .places)) (between 2 512 (b .pairs) ∷ leb (b .feeder) 4_096 ∷ leb (b .peer) 4_096 ∷ []) fit in
-    let q = both-true (leb 1 (b .places)) (leb (b .places) 64) (p .0) in
-    let r = both-true (leb 2 (b .pairs)) (leb (b .pairs) 512) (p .1 .0) in
-    record {
-      places = leb-true (b .places) 64 (q .1);
-      pairs = leb-true (b .pairs) 512 (r .1);
-      feeder = leb-true (b .feeder) 4_096 (p .1 .1 .0);
-      peer = leb-true (b .peer) 4_096 (p .1 .1 .1);
-    }
+    let k = shares-bounds b fit in
+    record { places = k .places; pairs = k .pairs; feeder = k .feeder; peer = k .peer }
 
 -- the words behind the four
 pub body-within : (b : Shares) (ws : List ℕ) → shares-fit b ≡ true → length ws ≡ class-width b → Within b (take (length ws - 4) (drop 4 ws))

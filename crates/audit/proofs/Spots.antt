@@ -1,6 +1,5 @@
 -- Place i of a class: where it lies, and what is read there.
 use Prim.Native.Nat.{ℕ, zero, _+_, _-_, _*_, _≤_, _<_}
-use native.Mathlib.Nat.{mul-le-mul}
 use native.Mathlib.Omega.{arith}
 use mathlib.Core.Path.{_≡_, refl, sym, _∙_, ap}
 use mathlib.Core.Bool.{Bool, true, false}
@@ -12,16 +11,15 @@ use Rattle.runs.proofs.Walk.{inside, read-stop, read-on}
 use Rattle.model.specs.declared.Class.{Class}
 use Rattle.model.specs.declared.Shares.{Shares}
 use Rattle.model.specs.Book.{Place}
-use Rattle.model.specs.BookWords.{place-form, used-place, read-who, read-place}
+use Rattle.model.specs.BookWords.{place-width, place-form, used-place, read-who, read-place}
+use Rattle.numbers.proofs.Placing.{places-few}
 use Rattle.audit.specs.Spot.{Few, Spot, read-from}
 
-pub spot-is : (b : Shares) (i : ℕ) → Few b → i < b .places → Spot b i (i * (2 * (b .pairs) + 4))
-spot-is b i f h =
+pub spot-is : (b : Shares) (i width : ℕ) → width ≡ place-width (b .pairs) → width ≤ 1_028 → Few b → i < b .places → Spot b i (i * width)
+spot-is b i width e v f h =
     let p = f .places in
-    let q = f .pairs in
     let u : i ≤ 64 = omega arith in
-    let v : 2 * (b .pairs) + 4 ≤ 1_028 = omega arith in
-    record { is = refl; whole = inside (b .places) i (2 * (b .pairs) + 4) h; small = let m = mul-le-mul u v in omega (arith, m) }
+    record { is = rw e; whole = rw e (inside (b .places) i (2 * (b .pairs) + 4) h); small = places-few i width u v }
 
 -- a word of a part
 pub word-at : (a k w : ℕ) (ws : List ℕ) → k < w → getD (take w (drop a ws)) k 0 ≡ getD ws (a + k) 0

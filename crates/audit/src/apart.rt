@@ -3,6 +3,7 @@ use crate::place;
 use crate::spot;
 use model::Class;
 use model::Shares;
+use numbers::starts;
 ghost use mathlib.Core.Path.{_≡_};
 ghost use Prim.Native.Nat.{_*_, _≤_};
 ghost use Rattle.model.specs.BookWords.{read-who, has-place, distinct as distinct-rule};
@@ -13,10 +14,11 @@ fn has_from(body: &[u64], shares: Shares, class: Class, from: usize, kind: u64, 
     requires { ⌜ Within shares (now body) × (from ≤ shares .places) ⌝ }
     ensures { λ r. ⌜ r ≡ has-place (read-who class kind number) (read-from shares class from (now (body .entry))) ⌝ }
 {
+    let width = starts::place_width(shares);
     let mut i = from;
     while i < shares.places as usize {
         let a = spot::start_of(shares, i);
-        let e = a + (2 * (shares.pairs as usize) + 4);
+        let e = a + width;
         let used = place::in_use(&body[a..e]);
         if !used {
             return false;
@@ -36,10 +38,11 @@ pub fn distinct(body: &[u64], shares: Shares, class: Class) -> bool
     requires { ⌜ Within shares (now body) ⌝ }
     ensures { λ r. ⌜ r ≡ distinct-rule (read-from shares class 0 (now (body .entry))) ⌝ }
 {
+    let width = starts::place_width(shares);
     let mut i = 0;
     while i < shares.places as usize {
         let a = spot::start_of(shares, i);
-        let e = a + (2 * (shares.pairs as usize) + 4);
+        let e = a + width;
         let used = place::in_use(&body[a..e]);
         if !used {
             return true;

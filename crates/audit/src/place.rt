@@ -1,23 +1,19 @@
 // One place: a deliverer, its entries and its pairs.
 use crate::pairs;
 use model::Class;
-use model::Shares;
+use numbers::codes;
 ghost use mathlib.Core.Path.{_≡_};
-ghost use Prim.Native.Nat.{ℕ, _+_, _*_, _≤_};
+ghost use Prim.Native.Nat.{_+_, _*_, _≤_};
 ghost use lib.ListN.{length};
 ghost use Rattle.model.specs.Class.{same-deliverer};
-ghost use Rattle.model.specs.Book.{place-units};
 ghost use Rattle.model.specs.BookWords.{kind-sound as kind-rule, place-sound as place-rule, read-who, used-place};
 
 // A deliverer of that class, or a restored one, by its kind.
 fn kind_sound(class: Class, kind: u64) -> bool
     ensures { λ r. ⌜ r ≡ kind-rule class kind ⌝ }
 {
-    match class {
-        Class::Feeders => (kind == 3) | (kind == 0),
-        Class::Peers => (kind == 3) | (kind == 1),
-        Class::Own => (kind == 3) | (kind == 2),
-    }
+    let own = codes::class_number(class);
+    (kind == 3) | (kind == own)
 }
 
 // A used place is sound: the cells of its pairs lie within it before they are read.
@@ -41,21 +37,6 @@ pub fn in_use(place: &[u64]) -> bool
     ensures { λ r. ⌜ r ≡ used-place (now (place .entry)) ⌝ }
 {
     place[3] != 0
-}
-
-// The units that a place costs, whatever its deliverer's number.
-pub fn units_of(shares: Shares, class: Class, kind: u64) -> u64
-    requires { ⌜ (shares .feeder ≤ 4096) × (shares .peer ≤ 4096) ⌝ }
-    ensures { λ r. ⌜ (r ≤ 4096) × ((number : ℕ) → r ≡ place-units shares (read-who class kind number)) ⌝ }
-{
-    if kind == 3 {
-        return shares.peer;
-    }
-    match class {
-        Class::Feeders => shares.feeder,
-        Class::Peers => shares.peer,
-        Class::Own => 0,
-    }
 }
 
 // Whether two kinds and numbers of a class are one deliverer. A restored one has no number, nor has the class Own.

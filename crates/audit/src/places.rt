@@ -3,6 +3,8 @@ use crate::place;
 use crate::spot;
 use model::Class;
 use model::Shares;
+use numbers::starts;
+use numbers::units;
 ghost use mathlib.Core.Path.{_≡_};
 ghost use mathlib.Core.Bool.{_&&_};
 ghost use Rattle.audit.specs.Spot.{Within, read-from, test-from, totals-rule, agreeing};
@@ -27,12 +29,13 @@ pub fn places_sound(
     requires { ⌜ Within shares (now body) ⌝ }
     ensures { λ r. ⌜ r ≡ (test-from shares class 0 (now (body .entry)) && totals-rule shares entries holders units 0 0 0 (read-from shares class 0 (now (body .entry)))) ⌝ }
 {
+    let width = starts::place_width(shares);
     let mut sum = 0u64;
     let mut cost = 0u64;
     let mut i = 0;
     while i < shares.places as usize {
         let a = spot::start_of(shares, i);
-        let e = a + (2 * (shares.pairs as usize) + 4);
+        let e = a + width;
         let used = place::in_use(&body[a..e]);
         if !used {
             let rest = runs::zeros_only(&body[a..]);
@@ -45,7 +48,7 @@ pub fn places_sound(
         }
         let d = a + 2;
         let more = body[d];
-        let place = place::units_of(shares, class, body[a]);
+        let place = units::units_of(shares, class, body[a]);
         sum += more;
         cost += more + place;
         i += 1;

@@ -1,5 +1,6 @@
 // Where a place lies among the places of a class.
 use model::Shares;
+use numbers::starts;
 ghost use Rattle.audit.specs.Spot.{Few, Spot};
 ghost use Prim.Native.Nat.{_<_};
 
@@ -8,5 +9,6 @@ pub fn start_of(shares: Shares, i: usize) -> usize
     requires { ⌜ Few shares × (i < shares .places) ⌝ }
     ensures { λ a. ⌜ Spot shares i a ⌝ }
 {
-    i * (2 * (shares.pairs as usize) + 4)
+    let width = starts::place_width(shares);
+    i * width
 }

@@ -5,16 +5,15 @@ use mathlib.Core.Path.{_≡_, refl, ap, sym}
 use mathlib.Core.Bool.{true}
 use mathlib.Core.List.{List, [], _∷_, _++_}
 use lib.ListN.{length, getD, take, drop}
-use Rattle.model.specs.declared.Class.{Class}
 use Rattle.model.specs.declared.Deliverer.{Deliverer}
 use Rattle.model.specs.declared.Deliverer.the-variants.{Feeder, Peer, Relay, Restored}
 use Rattle.model.specs.declared.Shares.{Shares}
 use Rattle.runs.proofs.Cases.{by-test}
 use Rattle.model.specs.Class.{class-of, kind-of, same-deliverer}
-use Rattle.model.specs.Book.{Place, entries, place-units, entries-in, units, entries-of, pairs-of, with-pairs, add-pair, lower-pair, new-place, enter, keep-place, give-back}
-use Rattle.model.specs.BookWords.{number-word, PlaceOk}
-use Rattle.model.proofs.BookWords.{same-class-is, same-class-self}
-use Rattle.book.specs.Rules.{names-by, units-by}
+use Rattle.model.specs.Book.{Place, entries, entries-in, units, entries-of, pairs-of, with-pairs, add-pair, lower-pair, new-place, enter, keep-place, give-back}
+use Rattle.model.specs.BookWords.{number-word}
+use Rattle.model.proofs.BookWords.{same-class-self}
+use Rattle.book.specs.Rules.{names-by}
 use Rattle.book.specs.ClassRules.{place-index}
 use Rattle.book.proofs.PairLists.{eqb-comm}
 use Rattle.book.proofs.ClassWords.{nobody}
@@ -38,16 +37,6 @@ names-same (Restored c) (Feeder y) mark e = refl
 names-same (Restored c) (Peer y) mark e = refl
 names-same (Restored c) Relay mark e = refl
 names-same (Restored c) (Restored d) mark e = sym (rw e (same-class-self d))
-
-pub units-same : (b : Shares) (w : Deliverer) → units-by b (class-of w) (kind-of w) ≡ place-units b w
-unfolding kind-of class-of place-units
-units-same b (Feeder x) = refl
-units-same b (Peer x) = refl
-units-same b Relay = refl
-units-same b (Restored c) = refl
-
-pub units-here : (b : Shares) (c : Class) (E : ℕ) (p : Place) → PlaceOk c E p → units-by b c (kind-of (p .who)) ≡ place-units b (p .who)
-units-here b c E p ok = rw (← same-class-is (class-of (p .who)) c (ok .class)) (units-same b (p .who))
 
 -- ---- a deliverer's index
 pub index-le : (who : Deliverer) (ps : List Place) → place-index who ps ≤ length ps

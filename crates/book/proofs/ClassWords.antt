@@ -4,7 +4,7 @@ use native.Mathlib.Nat.{zero-mul, suc-mul, mul-le-mul-right}
 use native.Mathlib.Omega.{arith}
 use mathlib.Core.Path.{_≡_, refl, ap, sym, subst, _∙_}
 use mathlib.Core.List.{List, [], _∷_, _++_, append-assoc}
-use lib.ListN.{length, getD, take, drop, replicate, length-append, replicate-append-replicate}
+use lib.ListN.{length, getD, take, drop, replicate, length-append}
 use lib.Seq.{split-at, length-take-le, getD-take, getD-drop}
 use borrow.Rule.Slice.PartMut.{midOf, putMid}
 use Rattle.model.specs.declared.Class.{Class}
@@ -13,6 +13,8 @@ use Rattle.model.specs.declared.Shares.{Shares}
 use Rattle.runs.specs.Chunks.{flat}
 use Rattle.runs.specs.Combine.{EachOk, encUp}
 use Rattle.runs.specs.Turns.{Is}
+use Rattle.runs.proofs.Chunks.{flat-append}
+use Rattle.runs.proofs.Exact.{up-none}
 use Rattle.model.specs.Book.{Place, Held, entries-in, units}
 use Rattle.model.specs.BookWords.{encode-place, PlaceOk, place-form, class-form}
 use Rattle.model.proofs.BookWords.{place-exact, class-exact}
@@ -40,11 +42,6 @@ module _ (b : Shares) (c : Class) (ws : List ℕ) (w : Is (class-form b c .enc) 
   }
 
 -- ---- places in words
-pub flat-append : (xs ys : List Place) → flat encode-place (xs ++ ys) ≡ flat encode-place xs ++ flat encode-place ys
-unfolding flat
-flat-append [] ys = refl
-flat-append (x ∷ xs) ys = rw (flat-append xs ys) (sym (append-assoc (encode-place x) (flat encode-place xs) (flat encode-place ys)))
-
 pub flat-cons : (p : Place) (ps : List Place) → flat encode-place (p ∷ ps) ≡ encode-place p ++ flat encode-place ps
 unfolding flat
 flat-cons p ps = refl
@@ -66,19 +63,12 @@ module _ (c : Class) (E : ℕ) where
       let e : i + suc (length xs) ≡ suc i + length xs = omega arith in
       ((ok .0, r .0), rw e (r .1))
 
-  up-none : (n : ℕ) → encUp (place-form c E) n [] ≡ replicate (n * (2 * E + 4)) 0
-  unfolding encUp
-  up-none zero = rw zero-mul
-  up-none (suc n) =
-      let e : 2 * E + 4 + n * (2 * E + 4) ≡ suc n * (2 * E + 4) = rw (suc-mul n (2 * E + 4)) (omega arith) in
-      rw (up-none n, replicate-append-replicate, e)
-
   pub up-flat : (n : ℕ) (ps : List Place) → length ps ≤ n
       → encUp (place-form c E) n ps ≡ flat encode-place ps ++ replicate ((n - length ps) * (2 * E + 4)) 0
   unfolding flat encUp
   up-flat zero [] h = rw zero-mul
   up-flat zero (p ∷ ps) h = absurd (omega arith)
-  up-flat (suc n) [] h = let e : suc n - 0 ≡ suc n = omega arith in rw e (up-none (suc n))
+  up-flat (suc n) [] h = let e : suc n - 0 ≡ suc n = omega arith in rw e (up-none (place-form c E) (suc n))
   up-flat (suc n) (p ∷ ps) h =
       let e : suc n - suc (length ps) ≡ n - length ps = omega arith in
       rw (up-flat n ps (omega arith), e) (sym (append-assoc (encode-place p) (flat encode-place ps) _))
@@ -154,7 +144,7 @@ module _ (b : Shares) (c : Class) (ws : List ℕ) (w : ClassIs b c ws) where
     pub words-cut : ws ≡ lead ++ (encode-place here ++ (flat encode-place back ++ rest))
     words-cut =
         words-are ∙ ap (λ (l : List ℕ). entries-in ps ∷ length ps ∷ units b ps ∷ w .is .value .expired ∷ l)
-        (ap (λ (l : List Place). flat encode-place l ++ rest) cut ∙ rw (flat-append front (here ∷ back), flat-cons here back, append-assoc, append-assoc))
+        (ap (λ (l : List Place). flat encode-place l ++ rest) cut ∙ rw (flat-append encode-place front (here ∷ back), flat-cons here back, append-assoc, append-assoc))
 
     module _ (a e : ℕ) (ha : a ≡ 4 + i * (2 * b .pairs + 4)) (he : e ≡ a + (2 * b .pairs + 4)) where
       size : e - a ≡ 2 * b .pairs + 4
@@ -181,5 +171,5 @@ module _ (b : Shares) (c : Class) (ws : List ℕ) (w : ClassIs b c ws) where
           let p : putMid a (e - a) ws ys ≡ lead ++ (encode-place q ++ (flat encode-place back ++ rest)) =
           rw (size, words-cut, is) (put-of lead (encode-place here) (flat encode-place back ++ rest) (encode-place q) a (2 * b .pairs + 4) (lead-long ∙ sym ha) (place-long c (b .pairs) here here-ok)) in
           let f : flat encode-place (front ++ q ∷ back) ++ rest ≡ flat encode-place front ++ (encode-place q ++ (flat encode-place back ++ rest)) =
-          rw (flat-append front (q ∷ back), flat-cons q back, append-assoc, append-assoc) in
+          rw (flat-append encode-place front (q ∷ back), flat-cons q back, append-assoc, append-assoc) in
           ap (drop 4) p ∙ sym f

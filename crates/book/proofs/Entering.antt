@@ -13,16 +13,18 @@ use borrow.Rule.Slice.PartMut.{midOf, putMid}
 use Rattle.model.specs.declared.Class.{Class}
 use Rattle.model.specs.declared.Deliverer.{Deliverer}
 use Rattle.model.specs.declared.Draw.{Draw}
-use Rattle.model.specs.declared.Draw.the-variants.{Granted, Closed, OwnShare, ClassLimit, EqualPart, TwiceLimit, Places, Pairs}
 use Rattle.model.specs.declared.Shares.{Shares}
 use Rattle.model.specs.declared.Limits.{Limits}
 use Rattle.runs.specs.Chunks.{flat}
 use Rattle.runs.specs.Combine.{encUp}
 use Rattle.runs.specs.Turns.{Is, Turns}
-use Rattle.runs.proofs.Cases.{by-test, no}
+use Rattle.runs.proofs.Cases.{by-test}
+use Rattle.runs.proofs.Chunks.{flat-append}
+use Rattle.runs.proofs.Words.{drop-zeros}
 use Rattle.model.specs.Class.{class-of, kind-of}
 use Rattle.model.specs.Book.{Pair, Place, Held, total, entries, place-units, entries-in, units, entries-of, pairs-of, listed, place-free, pair-free, draw-test, granted, with-pairs, add-pair, new-place, enter}
 use Rattle.model.specs.BookWords.{most-entries, pair-words, pairs-sound, number-word, encode-place, place-form, class-form}
+use Rattle.model.proofs.BookKept.{granted-is}
 use Rattle.model.proofs.BookWords.{read-flat}
 use Rattle.model.proofs.Pairs.{rising}
 use Rattle.model.proofs.Places.{PlacesOk, holds-some, entries-enter, units-enter, length-enter, grants, Grants}
@@ -36,7 +38,7 @@ use Rattle.book.specs.ClassRules.{ClassIs, ClassReads, ClassTurns, place
 use Rattle.book.proofs.Shifts.{mid-of, put-of}
 use Rattle.book.proofs.PairWords.{count-word, count-is}
 use Rattle.book.proofs.PairLists.{before-le, second-below, add-listed, add-new}
-use Rattle.book.proofs.ClassWords.{nobody, only, reads-one, turns-one, flat-append, flat-cons, flat-long, up-flat, each-ok, few, holders-are, totals-are, words-are, here-ok, put-here, place-long}
+use Rattle.book.proofs.ClassWords.{nobody, only, reads-one, turns-one, flat-cons, flat-long, up-flat, each-ok, few, holders-are, totals-are, words-are, here-ok, put-here, place-long}
 use Rattle.book.proofs.ClassLists.{index-le, entries-none, entries-at, enter-at, enter-none}
 use Rattle.book.proofs.Spots.{at-index, at-entries, at-listed, has-one, here-fine, here-seen, here-pairs, hit, wide, before-is}
 use Rattle.book.proofs.Finding.{holders-sum, units-sum, units-small, if-none-le, entries-le, index-is, word-of}
@@ -73,12 +75,6 @@ count-in p k h =
     let c = count-word (length (p .pairs)) k (flat pair-words (p .pairs) ++ p .past) h in
     rw (e, c, read-flat (p .pairs) (p .past)) (count-is k (p .pairs) h)
 
--- counts are at least 1 where pairs are sound
-pub drop-zeros : (n m : ℕ) → drop {A = ℕ} m (replicate n 0) ≡ replicate (n - m) 0
-drop-zeros n zero = let e : n - 0 ≡ n = omega arith in rw e
-drop-zeros zero (suc m) = let e : 0 - suc m ≡ 0 = omega arith in rw e
-drop-zeros (suc n) (suc m) = let e : suc n - suc m ≡ n - m = omega arith in rw e (drop-zeros n m)
-
 new-words : (b : Shares) (who : Deliverer) (s : ℕ)
     → _≡_ {A = List ℕ} (kind-of who ∷ number-word who 0 ∷ 1 ∷ 1 ∷ s ∷ 1 ∷ replicate (2 * b .pairs - 2) 0) (encode-place (new-place b who s))
 unfolding total flat
@@ -89,6 +85,7 @@ nothing-more : (xs : List Place) (p : Place) (left : List ℕ)
 unfolding flat
 nothing-more xs p left = refl
 
+-- counts are at least 1 where pairs are sound
 pub count-some : (least k : ℕ) (qs : List Pair) → pairs-sound least qs ≡ true → k < length qs → 1 ≤ count-at k qs
 unfolding count-at
 count-some least k [] t h = absurd (omega arith)
@@ -160,13 +157,13 @@ module _ (b : Shares) (who : Deliverer) (ws : List ℕ) (spot : Spot) (r : Roomy
       unfolding total
       enters-new ys is =
           let two = cw .two in
-          let d : drop {A = ℕ} 6 (replicate W 0) ≡ replicate (2 * b .pairs - 2) 0 = drop-zeros W 6 ∙ (let m : W - 6 ≡ 2 * b .pairs - 2 = omega arith in rw m) in
+          let d : drop {A = ℕ} 6 (replicate W 0) ≡ replicate (2 * b .pairs - 2) 0 = drop-zeros 6 W ∙ (let m : W - 6 ≡ 2 * b .pairs - 2 = omega arith in rw m) in
           let y : ys ≡ encode-place (new-place b who (spot .second)) = is ∙ rw (seen-new, d) (new-words b who (spot .second)) in
           let n = new-place b who (spot .second) in
           let p : putMid a (e - a) ws ys ≡ lead ++ (encode-place n ++ left) = rw (size, words-new, y) (put-of lead (replicate W 0) left (encode-place n) a W lead-is (length-replicate W 0)) in
           let k = fits in
           let l : length (xs ++ n ∷ []) ≡ suc (length xs) = length-append xs (n ∷ []) ∙ omega arith in
-          let q : flat encode-place (xs ++ n ∷ []) ++ left ≡ flat encode-place xs ++ (encode-place n ++ left) = rw (flat-append xs (n ∷ []), flat-cons n [], append-assoc, append-assoc) (nothing-more xs n left) in
+          let q : flat encode-place (xs ++ n ∷ []) ++ left ≡ flat encode-place xs ++ (encode-place n ++ left) = rw (flat-append encode-place xs (n ∷ []), flat-cons n [], append-assoc, append-assoc) (nothing-more xs n left) in
           body-one b (class-of who) ws (putMid a (e - a) ws ys) (cw .is) (enter b who (spot .second))
           (ap (drop 4) p ∙ sym q ∙ same-many b (class-of who) (suc (length xs)) (xs ++ n ∷ []) l (omega arith)
           ∙ ap (encUp (place-form (class-of who) (b .pairs)) (b .places)) (sym (enter-none who (spot .second) b xs (let g = no-place in let j = (at-index b who ws spot (r .found)) in omega arith))))
@@ -263,16 +260,6 @@ module _ (b : Shares) (who : Deliverer) (ws : List ℕ) (spot : Spot) (r : Roomy
       (class-words b (class-of who) (entered b who (spot .second) h) t (drop 4 mid) x (body .does h (w .is .ok) (w .is .words))) refl
 
 -- ---- take
-pub granted-is : (d : Draw) → granted d ≡ true → d ≡ Granted
-granted-is Granted e = refl
-granted-is Closed e = no (cc)
-granted-is OwnShare e = no (cc)
-granted-is ClassLimit e = no (cc)
-granted-is EqualPart e = no (cc)
-granted-is TwiceLimit e = no (cc)
-granted-is Places e = no (cc)
-granted-is Pairs e = no (cc)
-
 module _ (b : Shares) (who : Deliverer) (s : ℕ) (ws : List ℕ) (w : ClassIs b (class-of who) ws) (spot : Spot)
     (f : ClassReads b (class-of who) (λ h. spot-of who s (h .places)) ws spot) where
   pub spot-is : spot ≡ spot-of who s (w .is .value .places)
@@ -356,13 +343,12 @@ held-none b who ws w at r h =
     reads-one b (class-of who) ws (w .is) (sym (entries-none who 0 (w .is .value .places) (omega arith)))
 
 pub held-here : (b : Shares) (who : Deliverer) (ws : List ℕ) (w : ClassIs b (class-of who) ws) (at : ℕ)
-    → ClassReads b (class-of who) (λ h. place-index who (h .places)) ws at → at < getD ws 1 0
-    → ClassReads b (class-of who) (λ h. entries-of who (h .places)) ws (getD ws (4 + at * (2 * b .pairs + 4) + 2) 0)
-held-here b who ws w at r h =
+    → ClassReads b (class-of who) (λ h. place-index who (h .places)) ws at → at < getD ws 1 0 → (a : ℕ) → a ≡ 4 + at * (2 * b .pairs + 4)
+    → ClassReads b (class-of who) (λ h. entries-of who (h .places)) ws (getD ws (a + 2) 0)
+held-here b who ws w at r h a ha =
     let k = holders-are b (class-of who) ws w in
     let i = index-is b who 0 ws w at r in
-    let a = 4 + at * (2 * b .pairs + 4) in
-    let v = word-of b (class-of who) ws w at a (a + (2 * b .pairs + 4)) h refl refl 2 (a + 2) (omega arith) refl in
+    let v = word-of b (class-of who) ws w at a (a + (2 * b .pairs + 4)) h ha refl 2 (a + 2) (omega arith) refl in
     let n = entries-at who 0 (w .is .value .places) (omega arith) in
     let u : entries-of who (w .is .value .places) ≡ entries (getD (w .is .value .places) at nobody) = rw (← i) at n in
     reads-one b (class-of who) ws (w .is) (v ∙ sym u)

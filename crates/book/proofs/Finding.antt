@@ -4,7 +4,7 @@ use native.Mathlib.Numerals.{add-one}
 use native.Mathlib.Nat.{mul-le-mul-right}
 use native.Mathlib.Omega.{arith}
 use mathlib.Core.Path.{_≡_, refl, ap, sym, _∙_}
-use mathlib.Core.Bool.{Bool, true, false, _&&_}
+use mathlib.Core.Bool.{Bool, true, false}
 use mathlib.Core.List.{List, [], _∷_}
 use lib.ListN.{length, getD, drop, length-append, drop-of-length-le}
 use lib.Seq.{drop-cons}
@@ -19,13 +19,14 @@ use Rattle.model.specs.declared.Shares.{Shares}
 use Rattle.model.specs.declared.Limits.{Limits}
 use Rattle.runs.specs.Chunks.{flat}
 use Rattle.runs.specs.Turns.{Is}
-use Rattle.runs.proofs.Cases.{by-test, both-true, each-true}
+use Rattle.runs.proofs.Cases.{by-test, both-true}
 use Rattle.runs.proofs.Walk.{inside}
 use Rattle.model.specs.Numbers.{top32}
 use Rattle.model.specs.Settings.{shares-fit, limits-fit}
 use Rattle.model.specs.Class.{class-of, same-deliverer}
 use Rattle.model.specs.Book.{Place, entries, place-units, entries-in, units, entries-of, pairs-of, listed, together, holders-with, own-after, units-after, place-free, pair-free, draw-room, draw-limits, draw-test}
 use Rattle.model.specs.BookWords.{most-entries, pair-words, encode-place, PlaceOk, distinct, class-form}
+use Rattle.model.proofs.Bounds.{shares-bounds}
 use Rattle.model.proofs.BookWords.{read-flat, length-pairs, class-exact, same-class-is}
 use Rattle.model.proofs.Places.{limit-fits}
 use Rattle.book.specs.declared.Spot.{Spot}
@@ -62,14 +63,11 @@ entries-le who (x ∷ xs) =
 
 -- ---- what a function on a class's words may know of them
 pub class-is : (b : Shares) (c : Class) (ws : List ℕ) → shares-fit b ≡ true → Is (class-form b c .enc) (class-form b c .Ok) ws → ClassIs b c ws
-unfolding shares-fit
 class-is b c ws fit w =
-    let p = each-true (leb 1 (b .places) && leb (b .places) 64) ((leb 2 (b .pairs) && leb (b .pairs) 512) ∷ leb (b .feeder) 4_096 ∷ leb (b .peer) 4_096 ∷ []) fit in
-    let q = both-true (leb 1 (b .places)) (leb (b .places) 64) (p .0) in
-    let r = both-true (leb 2 (b .pairs)) (leb (b .pairs) 512) (p .1 .0) in
-    let feeder = leb-true (b .feeder) 4_096 (p .1 .1 .0) in
-    let peer = leb-true (b .peer) 4_096 (p .1 .1 .1) in
-    let places = leb-true (b .places) 64 (q .1) in
+    let k = shares-bounds b fit in
+    let feeder = k .feeder in
+    let peer = k .peer in
+    let places = k .places in
     let h = w .value in
     let few = w .ok .1 .0 .0 in
     let small = leb-true (entries-in (h .places)) most-entries (both-true (distinct (h .places)) (leb (entries-in (h .places)) most-entries) (w .ok .1 .1) .1) in
@@ -85,8 +83,8 @@ class-is b c ws fit w =
     record {
       is = w;
       places = places;
-      pairs = leb-true (b .pairs) 512 (r .1);
-      two = leb-true 2 (b .pairs) (r .0);
+      pairs = k .pairs;
+      two = k .some-pairs;
       feeder = feeder;
       peer = peer;
       long = long;
@@ -143,23 +141,22 @@ module _ (b : Shares) (who : Deliverer) (ws : List ℕ) (w : ClassIs b (class-of
       let l : place-index who all ≡ i + 0 = rw d at (s .left) in
       reads-one b (class-of who) ws (w .is) (omega arith)
 
-  module _ (i : ℕ) (s : Seeking i) (h : i < getD ws 1 0) where
+  module _ (i : ℕ) (s : Seeking i) (h : i < getD ws 1 0) (a : ℕ) (ha : a ≡ 4 + i * (2 * b .pairs + 4)) where
     at-i : i < length all
     at-i = let k = holders-are b (class-of who) ws w in omega arith
 
     cons : drop i all ≡ getD all i nobody ∷ drop (suc i) all
     cons = drop-cons all i nobody at-i
 
-    test : names-by who (getD ws (4 + i * (2 * b .pairs + 4)) 0) (getD ws (4 + i * (2 * b .pairs + 4) + 1) 0) ≡ same-deliverer who (getD all i nobody .who)
+    test : names-by who (getD ws a 0) (getD ws (a + 1) 0) ≡ same-deliverer who (getD all i nobody .who)
     test =
-        let a = 4 + i * (2 * b .pairs + 4) in
-        let k = word-of b (class-of who) ws w i a (a + (2 * b .pairs + 4)) h refl refl 0 a (omega arith) (omega arith) in
-        let n = word-of b (class-of who) ws w i a (a + (2 * b .pairs + 4)) h refl refl 1 (a + 1) (omega arith) refl in
+        let k = word-of b (class-of who) ws w i a (a + (2 * b .pairs + 4)) h ha refl 0 a (omega arith) (omega arith) in
+        let n = word-of b (class-of who) ws w i a (a + (2 * b .pairs + 4)) h ha refl 1 (a + 1) (omega arith) refl in
         let p = getD all i nobody in
         let ok = here-ok b (class-of who) ws w i at-i in
         rw (k, n) (names-same who (p .who) (p .mark) (sym (same-class-is (class-of (p .who)) (class-of who) (ok .class))))
 
-    pub seek-stop : (r : Bool) → r ≡ names-by who (getD ws (4 + i * (2 * b .pairs + 4)) 0) (getD ws (4 + i * (2 * b .pairs + 4) + 1) 0) → r ≡ true
+    pub seek-stop : (r : Bool) → r ≡ names-by who (getD ws a 0) (getD ws (a + 1) 0) → r ≡ true
         → ClassReads b (class-of who) (λ x. place-index who (x .places)) ws i
     unfolding place-index
     seek-stop r e t =
@@ -167,7 +164,7 @@ module _ (b : Shares) (who : Deliverer) (ws : List ℕ) (w : ClassIs b (class-of
         let l : place-index who all ≡ i + 0 = rw (cons, d) at (s .left) in
         reads-one b (class-of who) ws (w .is) (omega arith)
 
-    pub seek-on : (r : Bool) → r ≡ names-by who (getD ws (4 + i * (2 * b .pairs + 4)) 0) (getD ws (4 + i * (2 * b .pairs + 4) + 1) 0) → r ≡ false → Seeking (i + 1)
+    pub seek-on : (r : Bool) → r ≡ names-by who (getD ws a 0) (getD ws (a + 1) 0) → r ≡ false → Seeking (i + 1)
     unfolding place-index
     seek-on r e t =
         let d : same-deliverer who (getD all i nobody .who) ≡ false = sym (e ∙ test) ∙ t in

@@ -1,10 +1,9 @@
 -- One answer of src/decide.rt's `judge` each; and the front's words.
 use Prim.Native.Nat.{ℕ, _*_, _/_, _≤_, _<_}
-use native.Mathlib.Omega.{arith}
 use mathlib.Core.Path.{_≡_, refl, ap}
 use mathlib.Core.Bool.{Bool, true, false}
-use mathlib.Core.List.{List, _∷_}
-use lib.ListN.{length, getD, set, drop}
+use mathlib.Core.List.{List}
+use lib.ListN.{getD, set}
 use lib.Dec.{eqb}
 use borrow.Author.Tests.{le-leb, lt-leb, lt-ltb, le-ltb}
 use Rattle.model.specs.declared.Deliverer.{Deliverer}
@@ -13,10 +12,9 @@ use Rattle.model.specs.declared.Draw.the-variants.{Closed, OwnShare, ClassLimit
 use Rattle.model.specs.declared.Limits.{Limits}
 use Rattle.model.specs.declared.Settings.{Settings}
 use Rattle.runs.specs.Turns.{Turns, Reads}
-use Rattle.runs.proofs.Firsts.{firsts-are}
+use Rattle.model.proofs.RegisterWords.{flag-read}
 use Rattle.model.specs.Class.{class-of}
 use Rattle.model.specs.Book.{together, below-share, fair}
-use Rattle.model.specs.RegisterWords.{flag-word}
 use Rattle.model.specs.Words.{encode-front, FrontOk}
 use Rattle.book.specs.Rules.{decided}
 use Rattle.book.specs.FrontRules.{limited, shut}
@@ -69,13 +67,5 @@ pub reads-limits : (ws : List ℕ) (s : Settings)
     → Reads (encode-front s) FrontOk (λ f. f .limits) ws (record { feeder = getD ws 5 0; feeders = getD ws 6 0; peer = getD ws 7 0; peers = getD ws 8 0; relay = getD ws 9 0 })
 reads-limits ws s = record { says = λ f ok is. rw is }
 
-flag-back : (b : Bool) → eqb (flag-word b) 1 ≡ b
-flag-back true = refl
-flag-back false = refl
-
 pub reads-closed : (ws : List ℕ) (s : Settings) → Reads (encode-front s) FrontOk (λ f. f .closed) ws (eqb (getD ws 10 0) 1)
-reads-closed ws s = record { says = λ f ok is. rw is (flag-back (f .closed)) }
-
--- ---- four totals stored
-pub stored-four : (ws : List ℕ) (a b c d : ℕ) → 4 ≤ length ws → set (set (set (set ws 0 a) 1 b) 2 c) 3 d ≡ a ∷ b ∷ c ∷ d ∷ drop 4 ws
-stored-four ws a b c d h = let e = firsts-are 4 0 ws (omega arith) in ap (λ (z : List ℕ). set (set (set (set z 0 a) 1 b) 2 c) 3 d) e
+reads-closed ws s = record { says = λ f ok is. rw is (flag-read (f .closed)) }

@@ -19,7 +19,7 @@ use Rattle.model.specs.BookWords.{class-form}
 use Rattle.model.proofs.Places.{enter-ok, give-back-ok}
 use Rattle.book.specs.ClassRules.{ClassIs, ClassTurns, drawn-class, returned}
 use Rattle.book.proofs.Finding.{class-is}
-use Rattle.book.proofs.Entering.{granted-is}
+use Rattle.model.proofs.BookKept.{granted-is}
 
 pub drawn-ok : (b : Shares) (l : Limits) (closed : Bool) (who : Deliverer) (s : ℕ) → 1 ≤ b .pairs → limits-fit l ≡ true → s ≤ top32
     → (h : Held) → class-form b (class-of who) .Ok h → class-form b (class-of who) .Ok (drawn-class b l closed who s h)

@@ -2,7 +2,7 @@
 use Prim.Native.Nat.{ℕ, zero, suc, _+_, _<_, _≤_}
 use native.Mathlib.Omega.{arith}
 use mathlib.Core.Path.{_≡_, refl, ap, sym, _∙_}
-use mathlib.Core.Bool.{Bool, true, false, _||_}
+use mathlib.Core.Bool.{true, false, or-false}
 use mathlib.Core.List.{List, [], _∷_}
 use lib.ListN.{length, drop, length-append, length-drop}
 use lib.Seq.{length-take-le, drop-cons}
@@ -32,10 +32,6 @@ eqb-comm a b =
     by-test (eqb a b)
     (λ e. e ∙ sym (eq-eqb b a (sym (eqb-true a b e))))
     (λ e. e ∙ sym (ne-eqb b a (λ d. eqb-false a b e (sym d))))
-
-or-false : (a : Bool) → (a || false) ≡ a
-or-false true = refl
-or-false false = refl
 
 -- ---- a draw
 pub add-listed : (s : ℕ) (qs : List Pair) → second-at s (before s qs) qs ≡ true → add-pair s qs ≡ raise-at (before s qs) qs

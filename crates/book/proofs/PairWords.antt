@@ -12,6 +12,7 @@ use borrow.Author.Tests.{le-leb, lt-leb}
 use borrow.Rule.Slice.PartMut.{midOf, putMid}
 use Rattle.runs.specs.Chunks.{flat}
 use Rattle.runs.specs.Turns.{Turns}
+use Rattle.runs.proofs.Chunks.{flat-append}
 use Rattle.model.specs.Book.{Pair, total}
 use Rattle.model.specs.BookWords.{pair-words, read-pairs}
 use Rattle.model.proofs.BookWords.{length-read, length-pairs}
@@ -157,13 +158,8 @@ pub lowers : (n k : ℕ) (ws : List ℕ) → Turns cells-words (Holds n k) (lowe
 lowers n k ws = record { does = λ x ok is. let l = ok .many in let b = ok .below in (rw is (lower-word k (x .pairs) (x .past) (omega arith)), refl) }
 
 -- ---- pairs cut in two, and their words
-pub flat-append : (a b : List Pair) → flat pair-words (a ++ b) ≡ flat pair-words a ++ flat pair-words b
-unfolding flat
-flat-append [] b = refl
-flat-append (q ∷ a) b = ap (λ (l : List ℕ). q .second ∷ q .count ∷ l) (flat-append a b)
-
 pub flat-cut : (k : ℕ) (qs : List Pair) → flat pair-words qs ≡ flat pair-words (take k qs) ++ flat pair-words (drop k qs)
-flat-cut k qs = ap (flat pair-words) (sym (take-append-drop k qs)) ∙ flat-append (take k qs) (drop k qs)
+flat-cut k qs = ap (flat pair-words) (sym (take-append-drop k qs)) ∙ flat-append pair-words (take k qs) (drop k qs)
 
 -- ---- insert: the two words at the front of what moved up are overwritten
 two-over : (u m v : List ℕ) (a b s : ℕ) → length u ≡ a → b ≡ a + 1 → 2 ≤ length m
@@ -205,7 +201,7 @@ module _ (n k a e b s : ℕ) (ws ys : List ℕ) (ha : a ≡ 2 * k) (he : e ≡ 2
           let p : putMid a (e - a) ws ys ≡ u ++ (take 2 m ++ (v ++ drop 2 (x .past))) =
           ap₂ (putMid a (e - a)) w y ∙ put-of u m (drop 2 (x .past)) (take 2 m ++ v) a (e - a) lu lm
           ∙ ap (λ (z : List ℕ). u ++ z) (append-assoc (take 2 m) v (drop 2 (x .past))) in
-          let q : flat pair-words (insert-at k s (x .pairs)) ≡ u ++ (s ∷ 1 ∷ v) = flat-append (take k (x .pairs)) (record { second = s; count = 1 } ∷ drop k (x .pairs)) ∙ new-first s (drop k (x .pairs)) u in
+          let q : flat pair-words (insert-at k s (x .pairs)) ≡ u ++ (s ∷ 1 ∷ v) = flat-append pair-words (take k (x .pairs)) (record { second = s; count = 1 } ∷ drop k (x .pairs)) ∙ new-first s (drop k (x .pairs)) u in
           let t : flat pair-words (insert-at k s (x .pairs)) ++ drop 2 (x .past) ≡ u ++ (s ∷ 1 ∷ (v ++ drop 2 (x .past))) = rw q (append-assoc u (s ∷ 1 ∷ v) (drop 2 (x .past))) in
           ap (λ (z : List ℕ). set (set z a s) b 1) p ∙ two-over u m (v ++ drop 2 (x .past)) a b s lu hb (omega arith) ∙ sym t
 
@@ -233,5 +229,5 @@ module _ (n k m a e d : ℕ) (ws ys : List ℕ) (ha : a ≡ 2 * k) (he : e ≡ 2
           let mid : midOf a (e - a) ws ≡ g ++ v = ap (midOf a (e - a)) w ∙ mid-of u (g ++ v) (x .past) a (e - a) lu lm in
           let y : ys ≡ v ++ replicate d 0 = is-up ∙ rw mid (ap (λ (z : List ℕ). z ++ replicate d 0) (drop-at g v d lg)) in
           let p : putMid a (e - a) ws ys ≡ u ++ ((v ++ replicate d 0) ++ x .past) = ap₂ (putMid a (e - a)) w y ∙ put-of u (g ++ v) (x .past) (v ++ replicate d 0) a (e - a) lu lm in
-          let q : flat pair-words (remove-at k m qs) ≡ u ++ v = flat-append (take k qs) (drop (k + m) qs) in
+          let q : flat pair-words (remove-at k m qs) ≡ u ++ v = flat-append pair-words (take k qs) (drop (k + m) qs) in
           p ∙ rw (q, ← hd, append-assoc, append-assoc)

@@ -16,6 +16,7 @@ use Rattle.runs.specs.Chunks.{flat}
 use Rattle.runs.specs.Combine.{encUp}
 use Rattle.runs.specs.Turns.{Turns}
 use Rattle.runs.proofs.Cases.{by-test}
+use Rattle.runs.proofs.Chunks.{flat-append}
 use Rattle.model.specs.Class.{class-of, same-deliverer}
 use Rattle.model.specs.Book.{Pair, Place, total, entries, place-units, entries-in, units, pairs-of, listed, with-pairs, lower-pair, keep-place, give-back}
 use Rattle.model.specs.BookWords.{pairs-sound, encode-place, PlaceOk, place-form, class-form}
@@ -30,7 +31,7 @@ use Rattle.book.specs.PlaceRules.{Wide, Has, Single, lowered-place, shor
 use Rattle.book.specs.ClassRules.{ClassIs, ClassReads, ClassTurns, place-index, spot-of, Found, Listed, BodyTurns, returned}
 use Rattle.book.proofs.Shifts.{mid-of, put-of}
 use Rattle.book.proofs.PairLists.{second-below, lower-many, lower-last, lower-none, listed-at}
-use Rattle.book.proofs.ClassWords.{nobody, turns-one, flat-append, flat-long, up-flat, few, cut, back-ok, holders-are, totals-are, words-cut, lead, lead-long, rest, here-ok, seen-here, put-here, front-long, place-long}
+use Rattle.book.proofs.ClassWords.{nobody, turns-one, flat-long, up-flat, few, cut, back-ok, holders-are, totals-are, words-cut, lead, lead-long, rest, here-ok, seen-here, put-here, front-long, place-long}
 use Rattle.book.proofs.ClassLists.{index-same, entries-at, pairs-at, pairs-none, back-at, back-none, entries-append, units-append}
 use Rattle.book.proofs.Spots.{at-index, at-entries, at-listed, at-before, has-one}
 use Rattle.book.proofs.Finding.{place-wide}
@@ -212,7 +213,7 @@ module _ (b : Shares) (who : Deliverer) (ws : List ℕ) (spot : Spot) (f : Found
             let r : replicate ((b .places - length (front ++ back)) * W) 0 ≡ replicate W 0 ++ z =
             ap (λ (q : ℕ). replicate q 0) (ap (λ (q : ℕ). q * W) o ∙ suc-mul (b .places - length xs) W ∙ add-comm ((b .places - length xs) * W) W) ∙ sym (replicate-append-replicate W ((b .places - length xs) * W) 0) in
             let g : flat encode-place (front ++ back) ++ replicate ((b .places - length (front ++ back)) * W) 0 ≡ flat encode-place front ++ ((flat encode-place back ++ replicate W 0) ++ z) =
-            rw (r, flat-append front back, append-assoc, append-assoc) in
+            rw (r, flat-append encode-place front back, append-assoc, append-assoc) in
             body-one b c ws (putMid a (e - a) ws ys) (w .is) (give-back who (spot .second))
             (ap (drop 4) p ∙ sym g ∙ sym (up-flat c (b .pairs) (b .places) (front ++ back) (omega arith)) ∙ ap (encUp (place-form c (b .pairs)) (b .places)) (sym back-shorter))
 

@@ -1,5 +1,5 @@
 -- A deliverer and a second that were looked up: where they lie in the words.
-use Prim.Native.Nat.{ℕ, _+_, _-_, _*_, _<_}
+use Prim.Native.Nat.{ℕ, _+_, _-_, _*_, _<_, _≤_}
 use native.Mathlib.Omega.{arith}
 use mathlib.Core.Path.{_≡_, ap, _∙_}
 use mathlib.Core.List.{List}
@@ -19,7 +19,7 @@ use Rattle.book.specs.PlaceRules.{Wide}
 use Rattle.book.specs.ClassRules.{ClassIs, place-index, Found}
 use Rattle.book.proofs.PairLists.{listed-at}
 use Rattle.book.proofs.ClassWords.{nobody, holders-are, here-ok, seen-here}
-use Rattle.book.proofs.ClassLists.{entries-none, pairs-at}
+use Rattle.book.proofs.ClassLists.{index-le, entries-none, pairs-at}
 use Rattle.book.proofs.Finding.{place-wide}
 
 module _ (b : Shares) (who : Deliverer) (ws : List ℕ) (spot : Spot) (f : Found b who ws spot) where
@@ -31,6 +31,16 @@ module _ (b : Shares) (who : Deliverer) (ws : List ℕ) (spot : Spot) (f : Found
 
   pub at-index : spot .place ≡ place-index who xs
   at-index = ap (λ (z : Spot). z .place) (f .at)
+
+  -- few places come before it
+  pub place-few : spot .place ≤ 64
+  place-few =
+      let i = at-index in
+      let l = index-le who xs in
+      let n = holders-are b (class-of who) ws cw in
+      let h = cw .holders in
+      let p = cw .places in
+      omega arith
 
   pub at-entries : spot .entries ≡ entries-of who xs
   at-entries = ap (λ (z : Spot). z .entries) (f .at)

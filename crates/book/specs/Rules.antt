@@ -2,13 +2,10 @@
 use Prim.Native.Nat.{ℕ, _*_, _/_}
 use mathlib.Core.Bool.{Bool, cond, not, _&&_, _||_}
 use lib.Dec.{eqb, leb, ltb}
-use Rattle.model.specs.declared.Class.{Class}
-use Rattle.model.specs.declared.Class.the-variants.{Feeders, Peers, Own}
 use Rattle.model.specs.declared.Deliverer.{Deliverer}
 use Rattle.model.specs.declared.Deliverer.the-variants.{Feeder, Peer, Relay, Restored}
 use Rattle.model.specs.declared.Draw.{Draw}
 use Rattle.model.specs.declared.Draw.the-variants.{Granted, Closed, OwnShare, ClassLimit, EqualPart, TwiceLimit, Places, Pairs}
-use Rattle.model.specs.declared.Shares.{Shares}
 use Rattle.model.specs.declared.Limits.{Limits}
 use Rattle.model.specs.Numbers.{if_then_else_}
 use Rattle.model.specs.Class.{class-of}
@@ -45,12 +42,3 @@ names-by (Feeder id) kind number = eqb kind 0 && eqb number id
 names-by (Peer id) kind number = eqb kind 1 && eqb number id
 names-by Relay kind number = eqb kind 2
 names-by (Restored c) kind number = eqb kind 3
-
--- a place's units by its class and its kind
-abbrev pub own-units : Shares → Class → ℕ
-own-units b Feeders = b .feeder
-own-units b Peers = b .peer
-own-units b Own = 0
-
-abbrev pub units-by : Shares → Class → ℕ → ℕ
-units-by b c kind = cond (eqb kind 3) (b .peer) (own-units b c)

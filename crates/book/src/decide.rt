@@ -3,7 +3,7 @@ ghost use mathlib.Core.Path.{_≡_};
 ghost use Prim.Native.Nat.{_≤_};
 ghost use Rattle.model.specs.Class.{class-of};
 ghost use Rattle.model.specs.Book.{place-units, together, below-share, fair, granted};
-ghost use Rattle.book.specs.Rules.{if-none, if-one, room-by, decided, units-by, own-units};
+ghost use Rattle.book.specs.Rules.{if-none, if-one, room-by, decided};
 use model::Class;
 use model::Deliverer;
 use model::Draw;
@@ -41,26 +41,6 @@ pub fn place_units(shares: Shares, who: Deliverer) -> u64
         Deliverer::Relay => 0,
         Deliverer::Restored(_) => shares.peer,
     }
-}
-
-fn own_units(shares: Shares, class: Class) -> u64
-    ensures { λ r. ⌜ r ≡ own-units shares class ⌝ }
-{
-    match class {
-        Class::Feeders => shares.feeder,
-        Class::Peers => shares.peer,
-        Class::Own => 0,
-    }
-}
-
-// The same by a place's class and kind.
-pub fn units_of(shares: Shares, class: Class, kind: u64) -> u64
-    ensures { λ r. ⌜ r ≡ units-by shares class kind ⌝ }
-{
-    if kind == 3 {
-        return shares.peer;
-    }
-    own_units(shares, class)
 }
 
 // The limit of a class.

@@ -24,6 +24,7 @@ use model::Draw;
 use model::Limits;
 use model::Second;
 use model::Shares;
+use numbers::starts;
 
 // What a class holds of one deliverer and one second: the deliverer's place (the first unused one where it has none), its entries
 // and pairs, how many of the pairs are earlier than the second, and whether the second is listed.
@@ -42,10 +43,9 @@ fn find_place(part: &[u64], shares: Shares, who: Deliverer) -> usize
     ensures { λ r. ⌜ ClassReads shares (class-of who) (λ h. place-index who (h .places)) (now (part .entry)) r ⌝ }
 {
     let holders = part[1] as usize;
-    let width = 2 * (shares.pairs as usize) + 4;
     let mut i = 0;
     while i < holders {
-        let a = 4 + i * width;
+        let a = starts::place_start(shares, i);
         let b = a + 1;
         if place::names(who, part[a], part[b]) {
             return i;
@@ -72,9 +72,8 @@ pub fn find(part: &[u64], shares: Shares, who: Deliverer, second: Second) -> Spo
             listed: false,
         };
     }
-    let width = 2 * (shares.pairs as usize) + 4;
-    let a = 4 + at * width;
-    let e = a + width;
+    let a = starts::place_start(shares, at);
+    let e = a + starts::place_width(shares);
     let seen = place::look(&part[a..e], second.0);
     Spot {
         second: second.0,
@@ -126,10 +125,8 @@ fn enter_place(part: &mut [u64], shares: Shares, who: Deliverer, spot: Spot)
     requires { ⌜ Roomy shares who (now part) spot ⌝ }
     ensures { λ _. ⌜ BodyTurns shares (class-of who) (enter shares who (spot .second)) (now (part .entry)) (now (part .exit)) ⌝ }
 {
-    let at = spot.place;
-    let width = 2 * (shares.pairs as usize) + 4;
-    let a = 4 + at * width;
-    let e = a + width;
+    let a = starts::place_start(shares, spot.place);
+    let e = a + starts::place_width(shares);
     if spot.entries == 0 {
         place::open(&mut part[a..e], who, spot.second);
         return;
@@ -186,7 +183,7 @@ pub fn held_by(part: &[u64], shares: Shares, who: Deliverer) -> u64
     if holders <= at {
         return 0;
     }
-    let a = 4 + at * (2 * (shares.pairs as usize) + 4) + 2;
+    let a = starts::place_start(shares, at) + 2;
     part[a]
 }
 
@@ -204,12 +201,11 @@ fn return_place(part: &mut [u64], shares: Shares, who: Deliverer, spot: Spot)
     ensures { λ _. ⌜ BodyTurns shares (class-of who) (give-back who (spot .second)) (now (part .entry)) (now (part .exit)) ⌝ }
 {
     let holders = part[1] as usize;
-    let at = spot.place;
-    let width = 2 * (shares.pairs as usize) + 4;
-    let a = 4 + at * width;
+    let width = starts::place_width(shares);
+    let a = starts::place_start(shares, spot.place);
     let e = a + width;
     if spot.entries == 1 {
-        let end = 4 + holders * width;
+        let end = starts::place_start(shares, holders);
         moves::close_up(&mut part[a..end], width);
         return;
     }

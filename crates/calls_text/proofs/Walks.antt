@@ -1,18 +1,15 @@
 -- Loops that look for the first byte that passes a test. Assumes nothing.
 use Prim.Native.Nat.{ℕ, _+_, _≤_, _<_}
 use native.Mathlib.Omega.{arith}
-use mathlib.Core.Path.{_≡_, refl}
-use mathlib.Core.Bool.{Bool, true, false, _&&_}
+use mathlib.Core.Path.{_≡_}
+use mathlib.Core.Bool.{Bool, true, false}
 use mathlib.Core.List.{List}
 use lib.ListN.{length, getD}
 use borrow.Author.Count.{below-more}
 use borrow.Author.Tests.{leb-true}
 use lib.Dec.{leb}
+use Rattle.runs.proofs.Cases.{both-true}
 use Rattle.calls_text.specs.Scan.{Stops, arrowAt, Arrow}
-
-pub both-true : (a b : Bool) → (a && b) ≡ true → (a ≡ true) × (b ≡ true)
-both-true true b p = (refl, p)
-both-true false b p = (p, (cc))
 
 -- the loop has passed the places from `from` up to i, and none of their bytes passes the test
 pub record Walked (test : ℕ → Bool) (text : List ℕ) (from i : ℕ) : Type 0 where

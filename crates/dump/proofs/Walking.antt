@@ -1,20 +1,20 @@
 -- The walk by positions is the model's reading: a dump is whole exactly when the position after it lies within the words, and
 -- then what it holds is what lies at the positions. And what each step of a walk comes to.
-use Prim.Native.Nat.{ℕ, zero, suc, _+_, _-_, _/_, _*_, _<_, _≤_}
+use Prim.Native.Nat.{ℕ, zero, suc, _+_, _-_, _*_, _<_, _≤_}
 use native.Mathlib.Omega.{arith}
-use mathlib.Core.Path.{_≡_, refl, ap, sym, _∙_}
-use mathlib.Core.Bool.{Bool, true, false, cond}
+use mathlib.Core.Path.{_≡_, ap, sym, _∙_}
+use mathlib.Core.Bool.{cond}
 use mathlib.Core.List.{List, [], _∷_}
 use mathlib.Core.Option.{Option, none, some}
-use lib.Dec.{leb, eqb}
+use lib.Dec.{leb}
 use lib.ListN.{length, getD, take, drop, length-drop, drop-of-length-le}
 use lib.Seq.{drop-cons, drop-drop}
 use borrow.Author.Tests.{le-leb, lt-leb, leb-true, leb-false, ne-eqb}
 use Rattle.runs.proofs.Cases.{by-test}
 use Rattle.runs.proofs.Firsts.{firsts-are}
-use Rattle.model.specs.Dump.{Dumped, Dump, Cut, words-of, found-first, read-generations, read-class, read-own, read-peers, read-feeders, read-words, read-dump}
+use Rattle.model.specs.Dump.{Dumped, Cut, found-first, read-generations, read-class, read-own, read-peers, read-feeders, read-words}
+use Rattle.model.proofs.DumpRead.{read-none}
 use Rattle.dump.specs.Walk.{length-at, dumped-at, next-at, dumped-from, end-from, class-dumped, class-end, peers-at, own-at, dump-end, dump-at}
-use Rattle.dump.proofs.Reading.{words-long}
 
 -- ---- one step
 pub end-next : (ws : List ℕ) (p n : ℕ) → 0 < n → end-from ws p n ≡ end-from ws (next-at ws p) (n - 1)
@@ -47,14 +47,6 @@ cut-here ws ds e h = rw (le-leb e (length ws) h)
 
 cut-far : (ws : List ℕ) (ds : List Dumped) (e : ℕ) → length ws < e → cut-at ws ds e ≡ none
 cut-far ws ds e h = rw (lt-leb e (length ws) h)
-
-read-none : (most : ℕ) (us : List ℕ) → read-generations most 0 us ≡ some (record { found = []; rest = us })
-unfolding read-generations
-read-none zero us = refl
-read-none (suc most) [] = refl
-read-none (suc most) (b ∷ []) = refl
-read-none (suc most) (b ∷ t ∷ []) = refl
-read-none (suc most) (b ∷ t ∷ l ∷ us) = refl
 
 read-few : (most n : ℕ) (us : List ℕ) → length us < 3 → read-generations most (suc n) us ≡ none
 unfolding read-generations

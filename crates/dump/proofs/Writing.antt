@@ -5,8 +5,9 @@ use native.Mathlib.Omega.{arith}
 use mathlib.Core.Path.{_≡_, refl, ap, sym, _∙_}
 use mathlib.Core.List.{List, [], _∷_, _++_, append-assoc, append-nil}
 use lib.ListN.{length, set, take, drop, take-append-drop, length-append, length-drop}
-use lib.Seq.{take-suc-set, drop-set-lt, length-take-le, take-at, drop-at, drop-append-add, drop-drop}
+use lib.Seq.{take-suc-set, drop-set-lt, length-take-le, take-at, drop-append-add, drop-drop}
 use Rattle.runs.specs.Chunks.{flat}
+use Rattle.runs.proofs.Chunks.{flat-append}
 use Rattle.model.specs.Dump.{bytes-of, word-bytes}
 use Rattle.model.proofs.BytesRead.{bytes-long}
 use Rattle.dump.specs.Bytes.{written, Fits, Puts}
@@ -74,11 +75,6 @@ pub record Writes (p : ℕ) (ws out : List ℕ) (p₀ : ℕ) (ws₀ out₀ : Lis
   pub long : length out ≡ length out₀
   pub room : p + 8 * length ws ≤ length out
 
-flat-append : (us vs : List ℕ) → flat word-bytes (us ++ vs) ≡ flat word-bytes us ++ flat word-bytes vs
-unfolding flat
-flat-append [] vs = refl
-flat-append (u ∷ us) vs = rw (flat-append us vs, append-assoc)
-
 pub writes-start : {p : ℕ} {ws out : List ℕ} → Fits p ws out → Writes p ws out p ws out
 writes-start f = record { same = refl; next = refl; long = refl; room = f .room }
 
@@ -103,7 +99,7 @@ module _ {p p₀ : ℕ} {out ws₀ out₀ : List ℕ} where
         same =
             rw (d .bytes, e)
             (written-then p (flat word-bytes us) out h (flat word-bytes vs)
-            ∙ ap (λ (b : List ℕ). written p b out) (sym (flat-append us vs)) ∙ w .same);
+            ∙ ap (λ (b : List ℕ). written p b out) (sym (flat-append word-bytes us vs)) ∙ w .same);
         next = omega arith;
         long = omega arith;
         room = omega arith;

@@ -9,37 +9,25 @@ use lib.ListN.{length, getD, take, drop, length-append, length-drop}
 use lib.Seq.{drop-cons, drop-at}
 use borrow.Rule.Slice.PartMut.{midOf, putMid}
 use Rattle.model.specs.declared.Class.{Class}
-use Rattle.model.specs.declared.Class.the-variants.{Feeders, Peers, Own}
 use Rattle.model.specs.declared.Shares.{Shares}
 use Rattle.runs.specs.Chunks.{flat}
 use Rattle.runs.specs.Turns.{Turns}
-use lib.Dec.{eqb}
-use Rattle.runs.proofs.Cases.{by-test}
+use Rattle.runs.proofs.Chunks.{flat-append}
 use Rattle.runs.proofs.Each.{each-at}
 use Rattle.model.specs.Book.{Pair, Place, total, entries, entries-in, place-units, units, with-pairs, later-pairs, later-places}
 use Rattle.model.specs.BookWords.{most-entries, encode-place, PlaceOk}
-use Rattle.model.proofs.BookWords.{read-flat}
+use Rattle.model.proofs.BookWords.{read-flat, named-back}
 use Rattle.model.proofs.Pairs.{length-later, total-later}
 use Rattle.model.proofs.Places.{PlacesOk}
 use Rattle.book.specs.declared.place.Left.{Left}
-use Rattle.book.specs.Rules.{units-by, own-units}
 use Rattle.book.specs.PlaceRules.{pairs-in, Wide, Sums, later-place, left-of}
 use Rattle.book.proofs.Shifts.{mid-of, put-of}
-use Rattle.book.proofs.ClassWords.{nobody, flat-append, flat-cons, flat-long, place-long}
-use Rattle.book.proofs.ClassLists.{units-here, entries-append, units-append}
+use Rattle.book.proofs.ClassWords.{nobody, flat-cons, flat-long, place-long}
+use Rattle.book.proofs.ClassLists.{entries-append, units-append}
 use Rattle.book.proofs.Finding.{place-wide}
 use Rattle.expiry.specs.declared.Kept.{Kept}
 use Rattle.expiry.specs.Walks.{with-words, Walk, Standing, Steps}
 use Rattle.expiry.proofs.Lists.{later-gone, later-here, fewer-long, kept-ok}
-
--- ---- the units that a place may cost
-own-most : (b : Shares) (c : Class) → b .feeder ≤ 4_096 → b .peer ≤ 4_096 → own-units b c ≤ 4_096
-own-most b Feeders f p = f
-own-most b Peers f p = p
-own-most b Own f p = omega arith
-
-pub units-most : (b : Shares) (c : Class) (kind : ℕ) → b .feeder ≤ 4_096 → b .peer ≤ 4_096 → units-by b c kind ≤ 4_096
-units-most b c kind f p = by-test (eqb kind 3) (λ e. rw e p) (λ e. rw e (own-most b c f p))
 
 -- ---- place i in words of which the places before it have been seen
 module _ (b : Shares) (c : Class) (t i : ℕ) (lead : List ℕ) (ps : List Place) (rest : List ℕ) (k : Kept) (ws : List ℕ)
@@ -178,7 +166,7 @@ module _ (b : Shares) (c : Class) (t i : ℕ) (lead : List ℕ) (ps : List Place
 
         flat-more : flat encode-place (kept ++ q ∷ []) ≡ flat encode-place kept ++ encode-place q
         unfolding flat
-        flat-more = flat-append kept (q ∷ []) ∙ ap (λ (y : List ℕ). flat encode-place kept ++ y) (append-nil (encode-place q))
+        flat-more = flat-append encode-place kept (q ∷ []) ∙ ap (λ (y : List ℕ). flat encode-place kept ++ y) (append-nil (encode-place q))
 
         more-words : putMid j (e - j) (putMid a (e - a) ws ys) zs ≡ (lead ++ flat encode-place (kept ++ q ∷ [])) ++ (stale ++ v)
         more-words =
@@ -199,7 +187,7 @@ module _ (b : Shares) (c : Class) (t i : ℕ) (lead : List ℕ) (ps : List Place
         module _ (r : Kept) (hr : r ≡ with-words b c (midOf a (e - a) (putMid a (e - a) ws ys)) k) where
           counted : r ≡ record { places = k .places + 1; entries = k .entries + total qs; units = k .units + total qs + place-units b (p .who) }
           unfolding with-pairs
-          counted = hr ∙ rw again (rw (units-here b c (b .pairs) p fine))
+          counted = hr ∙ rw again (rw (named-back c (p .who) (p .mark) (fine .class) .1))
 
           pub stays : (left .pairs ≡ 0 → ⊥) → Walk b t (suc i) lead ps rest r (putMid j (e - j) (putMid a (e - a) ws ys) zs)
           stays some =

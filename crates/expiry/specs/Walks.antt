@@ -7,9 +7,8 @@ use Rattle.model.specs.declared.Class.{Class}
 use Rattle.model.specs.declared.Shares.{Shares}
 use Rattle.runs.specs.Chunks.{flat}
 use Rattle.runs.specs.Combine.{EachOk}
-use Rattle.model.specs.Book.{Place, Held, entries-in, units, later-places}
-use Rattle.model.specs.BookWords.{most-entries, encode-place, PlaceOk, class-form}
-use Rattle.book.specs.Rules.{units-by}
+use Rattle.model.specs.Book.{Place, Held, entries-in, place-units, units, later-places}
+use Rattle.model.specs.BookWords.{most-entries, read-who, encode-place, PlaceOk, class-form}
 use Rattle.expiry.specs.declared.Kept.{Kept}
 
 -- the kept places with one more, by its words
@@ -17,7 +16,7 @@ abbrev pub with-words : Shares → Class → List ℕ → Kept → Kept
 with-words b c ws k = record {
   places = k .places + 1;
   entries = k .entries + getD ws 2 0;
-  units = k .units + getD ws 2 0 + units-by b c (getD ws 0 0);
+  units = k .units + getD ws 2 0 + place-units b (read-who c (getD ws 0 0) (getD ws 1 0));
 }
 
 -- Behind the lead: the places kept, words that mean nothing, the places that are not seen yet, and the rest.

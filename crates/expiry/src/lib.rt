@@ -8,7 +8,6 @@ ghost use Rattle.model.specs.Book.{expire-class};
 ghost use Rattle.model.specs.BookWords.{most-entries};
 ghost use Rattle.book.specs.ClassRules.{ClassIs, ClassTurns};
 ghost use Rattle.expiry.specs.Walks.{with-words, Standing, Steps, Walking, freed-to};
-use book::decide;
 use book::moves;
 use book::place;
 use book::totals;
@@ -16,6 +15,8 @@ use model::Class;
 use model::Second;
 use model::Shares;
 use numbers::capped;
+use numbers::starts;
+use numbers::units;
 
 // The places kept so far, with their entries and units. What the totals lose is what is not kept.
 struct Kept {
@@ -30,7 +31,7 @@ fn with_place(place: &[u64], shares: Shares, class: Class, kept: Kept) -> Kept
     ensures { λ r. ⌜ r ≡ with-words shares class (now (place .entry)) kept ⌝ }
 {
     let entries = place[2];
-    let units = decide::units_of(shares, class, place[0]);
+    let units = units::units_of(shares, class, place[0]);
     Kept {
         places: kept.places + 1,
         entries: kept.entries + entries,
@@ -50,15 +51,14 @@ fn expire_place(
     requires { ⌜ Standing shares class t i kept (now part) ⌝ }
     ensures { λ r. ⌜ Steps shares class t i kept (now (part .entry)) (now (part .exit)) r ⌝ }
 {
-    let width = 2 * (shares.pairs as usize) + 4;
-    let a = 4 + i * width;
-    let e = a + width;
+    let a = starts::place_start(shares, i);
+    let e = a + starts::place_width(shares);
     let left = place::expire(&mut part[a..e], t);
     if left.pairs == 0 {
         return kept;
     }
     let more = with_place(&part[a..e], shares, class, kept);
-    let j = 4 + kept.places * width;
+    let j = starts::place_start(shares, kept.places);
     moves::move_down(&mut part[j..e], a - j);
     more
 }
@@ -89,11 +89,10 @@ fn expire_pairs(part: &mut [u64], shares: Shares, class: Class, t: u64)
 {
     let sums = totals::read(part);
     let holders = part[1] as usize;
-    let width = 2 * (shares.pairs as usize) + 4;
     let kept = expire_places(part, shares, class, t);
     let places = kept.places;
-    let a = 4 + places * width;
-    let e = 4 + holders * width;
+    let a = starts::place_start(shares, places);
+    let e = starts::place_start(shares, holders);
     runs::clear_words(&mut part[a..e]);
     let left = totals::lent_to_expire(
         sums,

@@ -1,5 +1,5 @@
 -- A fingerprint is inserted: the slots grow, and it is entered.
-use Prim.Native.Nat.{ℕ, zero, suc, _+_, _-_, _≤_, max}
+use Prim.Native.Nat.{ℕ, _+_, _-_, _≤_, max}
 use native.Mathlib.Omega.{arith}
 use mathlib.Core.Path.{_≡_, refl, sym, _∙_, ap}
 use mathlib.Core.Bool.{Bool}
@@ -8,9 +8,9 @@ use lib.ListN.{length, getD, set, take, drop, replicate, length-append, length-t
 use lib.Seq.{take-all, drop-append-add}
 use borrow.Rule.Slice.PartMut.{putMid, midOf}
 use Rattle.runs.specs.Words.{pad}
-use Rattle.runs.proofs.Words.{length-pad, pad-fits}
+use Rattle.runs.proofs.Words.{length-pad, drop-zeros, pad-fits}
 use Rattle.runs.proofs.Firsts.{firsts-are}
-use Rattle.model.specs.Generation.{Generation, count, among, put, grown, slots-for, insert}
+use Rattle.model.specs.Generation.{count, among, put, grown, slots-for, insert}
 use Rattle.model.proofs.Probing.{put-length}
 use Rattle.model.proofs.Growth.{slots-law, grown-length, grown-count, ok-found}
 use Rattle.model.proofs.GenerationWords.{generation-wide, live-pad}
@@ -22,11 +22,6 @@ use Rattle.generation.proofs.Doubling.{slots-are, slots-more}
 use Rattle.generation.proofs.Looking.{slots-part}
 
 -- a run's slots, some of them replaced by as many or more
-drop-zeros : (j n : ℕ) → drop {A = ℕ} j (replicate n 0) ≡ replicate (n - j) 0
-drop-zeros zero n = let e : n - 0 ≡ n = omega arith in rw e
-drop-zeros (suc j) zero = let e : 0 - suc j ≡ 0 = omega arith in rw e
-drop-zeros (suc j) (suc n) = let e : suc n - suc j ≡ n - j = omega arith in rw e (drop-zeros j n)
-
 pad-over : (S : ℕ) (s t : List ℕ) → length s ≤ length t → length t ≤ S → t ++ drop (length t) (pad S s) ≡ pad S t
 pad-over S s t h k =
     let e : length t ≡ length s + (length t - length s) = omega arith in

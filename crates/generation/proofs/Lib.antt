@@ -1,4 +1,4 @@
-pub mod Leading
+pub mod Masking
 pub mod Doubling
 pub mod Putting
 pub mod Reaching

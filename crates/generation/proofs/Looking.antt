@@ -2,13 +2,12 @@
 use Prim.Native.Nat.{ℕ, _+_, _-_, _<_, _≤_}
 use native.Mathlib.Omega.{arith}
 use mathlib.Core.Path.{_≡_, refl, sym, _∙_, ap}
-use mathlib.Core.Bool.{Bool, true, false, not, _&&_}
+use mathlib.Core.Bool.{Bool, true, false, cond, not, _&&_}
 use mathlib.Core.List.{List}
 use lib.ListN.{length, getD}
 use lib.Dec.{eqb, leb}
-use borrow.Author.Tests.{le-leb, lt-leb, leb-true}
+use borrow.Author.Tests.{eq-eqb, ne-eqb, le-leb, lt-leb}
 use borrow.Rule.Slice.PartMut.{midOf}
-use Rattle.runs.proofs.Cases.{by-test, no}
 use Rattle.runs.proofs.Words.{length-pad}
 use Rattle.model.specs.declared.Probe.{Probe}
 use Rattle.model.specs.declared.Room.{Room}
@@ -18,6 +17,7 @@ use Rattle.model.specs.Judge.{collides}
 use Rattle.model.specs.GenerationWords.{encode-generation, read-generation, generation-sound, GenerationOk}
 use Rattle.model.proofs.Probing.{found, probe-finds, count≤}
 use Rattle.model.proofs.Growth.{ok-found}
+use Rattle.model.proofs.RingsKept.{room-told}
 use Rattle.model.proofs.GenerationWords.{generation-wide, live-pad, generation-exact}
 use Rattle.generation.specs.Slots.{slots-after}
 use Rattle.generation.specs.Rules.{holds-in, room-in}
@@ -45,9 +45,15 @@ module _ (ws : List ℕ) where
         says ∙ ap found e ∙ rw (slots-part S g (ok .fits) ws is (getD ws 0 0) refl) (probe-finds (g .slots) fp (ok-found S n i g ok) pos);
   }
 
-  pub holds-reads : (b fp : ℕ) (r : Bool) → GenerationReads (λ S g. among fp (g .slots)) ws r
-      → GenerationReads (λ S. holds-in b fp) ws (eqb (getD ws 3 0) b && r)
-  holds-reads b fp r t S n i = record { says = λ g ok is. rw (t S n i .says g ok is, is) }
+  -- of another bucket, and of that bucket
+  pub holds-not : (b fp : ℕ) → (getD ws 3 0 ≡ b → ⊥) → GenerationReads (λ S. holds-in b fp) ws false
+  holds-not b fp h S n i = record { says = λ g ok is. rw (ne-eqb (g .bucket) b (λ z. h (ap (λ (l : List ℕ). getD l 3 0) is ∙ z))) }
+
+  pub holds-reads : (b fp : ℕ) (r : Bool) → getD ws 3 0 ≡ b → GenerationReads (λ S g. among fp (g .slots)) ws r
+      → GenerationReads (λ S. holds-in b fp) ws r
+  holds-reads b fp r h t S n i = record {
+    says = λ g ok is. t S n i .says g ok is ∙ rw (eq-eqb (g .bucket) b (sym (ap (λ (l : List ℕ). getD l 3 0) is) ∙ h));
+  }
 
   module _ (known : Bool) (b at : ℕ) where
     pub room-collides : (not (eqb (getD ws 3 0) b) && not (eqb (getD ws 1 0) 0)) ≡ true → GenerationReads (room-in known b at) ws Collides
@@ -56,25 +62,20 @@ module _ (ws : List ℕ) where
 
     module _ (t : (not (eqb (getD ws 3 0) b) && not (eqb (getD ws 1 0) 0)) ≡ false) (wanted : ℕ)
         (w : wanted ≡ slots-after known (getD ws 0 0) (getD ws 1 0)) where
-      pub room-at : wanted ≤ length ws - 4 → GenerationReads (room-in known b at) ws (At at)
+      room-said : (S : ℕ) (g : Generation) → ws ≡ encode-generation S g
+          → cond (leb wanted (length ws - 4)) (At at) Full ≡ room-in known b at S g
       unfolding collides
-      room-at h S n i = record {
-        says = λ g ok is.
-            let e = rw is at t in
-            let m : length ws - 4 ≡ S = rw (is, generation-wide S g) (omega arith) in
-            let v : slots-after known (length (g .slots)) (count (g .slots)) ≡ wanted = sym (rw is at w) in
-            rw (e, slots-are known (g .slots), v, le-leb wanted S (omega arith));
-      }
+      room-said S g is =
+          let e = rw is at t in
+          let m : length ws - 4 ≡ S = rw (is, generation-wide S g) (omega arith) in
+          let v : slots-after known (length (g .slots)) (count (g .slots)) ≡ wanted = sym (rw is at w) in
+          rw (e, slots-are known (g .slots), v, m)
+
+      pub room-at : wanted ≤ length ws - 4 → GenerationReads (room-in known b at) ws (At at)
+      room-at h S n i = record { says = λ g ok is. rw (le-leb wanted (length ws - 4) h) at (room-said S g is) }
 
       pub room-full : length ws - 4 < wanted → GenerationReads (room-in known b at) ws Full
-      unfolding collides
-      room-full h S n i = record {
-        says = λ g ok is.
-            let e = rw is at t in
-            let m : length ws - 4 ≡ S = rw (is, generation-wide S g) (omega arith) in
-            let v : slots-after known (length (g .slots)) (count (g .slots)) ≡ wanted = sym (rw is at w) in
-            rw (e, slots-are known (g .slots), v, lt-leb wanted S (omega arith));
-      }
+      room-full h S n i = record { says = λ g ok is. rw (lt-leb wanted (length ws - 4) h) at (room-said S g is) }
 
 -- ---- what a function may ask of words, for a caller
 pub roomy : (S : ℕ) (g : Generation) (known : Bool) → slots-for known (g .slots) ≤ S → (ws : List ℕ) → ws ≡ encode-generation S g → Roomy known ws
@@ -91,8 +92,5 @@ module _ (S n i : ℕ) (small : S ≤ 1_024) (ws : List ℕ) (long : length ws �
   found-roomy known b at r told t =
       let v = generation-exact S n i .back ws long sound in
       let g = read-generation ws in
-      let q = sym told ∙ t S n i .says g (v .0) (v .1) in
-      by-test (collides b g) (λ e. no (let z = rw e at q in cc))
-      (λ e. by-test (leb (slots-for known (g .slots)) S)
-      (λ d. roomy S g known (leb-true (slots-for known (g .slots)) S d) ws (v .1))
-      (λ d. no (let z = rw (e, d) at q in cc)))
+      let q = sym (t S n i .says g (v .0) (v .1)) ∙ told in
+      roomy S g known (room-told known b at S _ g q .fits) ws (v .1)

@@ -2,20 +2,37 @@
 use Prim.Native.Nat.{ℕ, _+_, _<_, _≤_}
 use native.Mathlib.Omega.{arith}
 use native.Mathlib.Numerals.{add-one}
-use mathlib.Core.Path.{_≡_, refl, _∙_}
+use mathlib.Core.Path.{_≡_, refl, sym, _∙_}
 use mathlib.Core.Bool.{true, false, cond}
 use mathlib.Core.List.{List}
 use lib.ListN.{length, getD, drop, drop-of-length-le}
 use lib.Seq.{drop-cons}
 use lib.Dec.{eqb}
-use borrow.Author.Tests.{ne-eqb}
+use borrow.Author.Tests.{eq-eqb, ne-eqb}
 use Rattle.runs.proofs.Cases.{by-test}
 use Rattle.model.specs.declared.Probe.{Probe}
-use Rattle.model.specs.Generation.{count, probe}
+use Rattle.model.specs.Generation.{count, probe, probe-from}
+use Rattle.model.proofs.Probing.{probe-held, probe-free, probe-out}
 use Rattle.model.specs.GenerationWords.{ends-at, reached, reached-from, slots-sound}
 
-pub reached-held : (s : List ℕ) (i x : ℕ) (p : Probe) → p ≡ probe s x → (x ≡ 0 → ⊥) → ends-at i p ≡ reached s i x
-reached-held s i x p found n = rw (ne-eqb x 0 n, found)
+-- a slot's own fingerprint is reached as probing for it ends there, and not otherwise
+module _ (s : List ℕ) (i x : ℕ) (some : x ≡ 0 → ⊥) where
+  ends : {p : Probe} → probe s x ≡ p → ends-at i p ≡ reached s i x
+  ends e = rw (ne-eqb x 0 some, e)
+
+  -- probing has come to slot j
+  module _ (left j : ℕ) (p : probe s x ≡ probe-from s x left j) where
+    pub ends-here : 0 < left → j ≡ i → x ≡ getD s i 0 → true ≡ reached s i x
+    ends-here h e is = sym (eq-eqb j i e) ∙ ends (p ∙ probe-held s x left j h (rw e (sym is)))
+
+    pub ends-before : 0 < left → (j ≡ i → ⊥) → getD s j 0 ≡ x → false ≡ reached s i x
+    ends-before h n e = sym (ne-eqb j i n) ∙ ends (p ∙ probe-held s x left j h e)
+
+    pub ends-empty : 0 < left → (getD s j 0 ≡ x → ⊥) → getD s j 0 ≡ 0 → false ≡ reached s i x
+    ends-empty h n e = ends (p ∙ probe-free s x left j h n e)
+
+    pub ends-nowhere : left ≤ 0 → false ≡ reached s i x
+    ends-nowhere h = ends (p ∙ probe-out s x left j h)
 
 pub one≤1 : (x : ℕ) → cond (eqb x 0) 0 1 ≤ 1
 one≤1 x = by-test (eqb x 0) (λ e. rw e (omega arith)) (λ e. rw e (omega arith))

@@ -102,8 +102,10 @@ pub fn contains_in(part: &[u64], bucket: Bucket, fp: u64) -> bool
     requires { ⌜ (0 < fp) × Bounded (now part) ⌝ }
     ensures { λ r. ⌜ GenerationReads (λ S. holds-in (bucket .0) fp) (now (part .entry)) r ⌝ }
 {
-    let held = contains(part, fp);
-    (part[3] == bucket.0) & held
+    if part[3] != bucket.0 {
+        return false;
+    }
+    contains(part, fp)
 }
 
 // The room for one more fingerprint of a bucket in the generation at position `at`: that position, or what stands against it.

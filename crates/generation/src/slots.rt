@@ -9,28 +9,21 @@ ghost use lib.ListN.{length, take, drop, replicate};
 ghost use Rattle.model.specs.Generation.{next, probe, refill, grown};
 ghost use Rattle.generation.specs.Slots.{slots-after, put-again, Puts};
 
-// The slot that probing starts at. Slots are a power of two, for which the remainder is a mask and no division.
-fn first_slot(fp: u64, n: usize) -> usize
+// The slot that probing starts at: the remainder. Slots are a power of two, for which it is a mask and no division.
+pub fn first_slot(fp: u64, n: usize) -> usize
     requires { ⌜ 0 < n ⌝ }
     ensures { λ r. ⌜ r ≡ fp % n ⌝ }
 {
-    match n {
-        2 => (fp % 2) as usize,
-        4 => (fp % 4) as usize,
-        8 => (fp % 8) as usize,
-        16 => (fp % 16) as usize,
-        32 => (fp % 32) as usize,
-        64 => (fp % 64) as usize,
-        128 => (fp % 128) as usize,
-        256 => (fp % 256) as usize,
-        512 => (fp % 512) as usize,
-        1024 => (fp % 1024) as usize,
-        _ => (fp % (n as u64)) as usize,
+    let slots = n as u64;
+    let last = slots - 1;
+    if slots & last == 0 {
+        return (fp & last) as usize;
     }
+    (fp % slots) as usize
 }
 
 // The slot after i, round the end.
-fn next_slot(i: usize, n: usize) -> usize
+pub fn next_slot(i: usize, n: usize) -> usize
     requires { ⌜ i < n ⌝ }
     ensures { λ r. ⌜ r ≡ next n i ⌝ }
 {
@@ -121,11 +114,35 @@ fn rebuild_through(slots: &mut [u64], old: &mut [u64], n: usize, wanted: usize)
     rebuild(&mut slots[0..wanted], &old[0..n]);
 }
 
-// Room for the most slots that a generation can have.
-fn scratch() -> [u64; 1024]
+// Room for few slots, and for the most that a generation can have. It is filled with zeros each time, so few is cheaper.
+fn scratch_few() -> [u64; 64]
+    ensures { λ r. ⌜ 64 ≡ length r ⌝ }
+{
+    [0u64; 64]
+}
+
+fn scratch_most() -> [u64; 1024]
     ensures { λ r. ⌜ 1024 ≡ length r ⌝ }
 {
     [0u64; 1024]
+}
+
+// The first n slots become `wanted`, through room for few.
+fn rebuild_few(slots: &mut [u64], n: usize, wanted: usize)
+    requires { ⌜ ((n ≤ wanted) × (wanted ≤ length (now slots))) × (n ≤ 64) ⌝ }
+    ensures { λ _. ⌜ now (slots .exit) ≡ refill (take n (now (slots .entry))) (replicate wanted 0) ++ drop wanted (now (slots .entry)) ⌝ }
+{
+    let mut old = scratch_few();
+    rebuild_through(slots, &mut old, n, wanted);
+}
+
+// The same, through room for the most.
+fn rebuild_most(slots: &mut [u64], n: usize, wanted: usize)
+    requires { ⌜ ((n ≤ wanted) × (wanted ≤ length (now slots))) × (n ≤ 1024) ⌝ }
+    ensures { λ _. ⌜ now (slots .exit) ≡ refill (take n (now (slots .entry))) (replicate wanted 0) ++ drop wanted (now (slots .entry)) ⌝ }
+{
+    let mut old = scratch_most();
+    rebuild_through(slots, &mut old, n, wanted);
 }
 
 // The first n slots become `wanted`, unless they are as many already.
@@ -136,8 +153,11 @@ pub fn regrow(slots: &mut [u64], n: usize, wanted: usize)
     if wanted == n {
         return;
     }
-    let mut old = scratch();
-    rebuild_through(slots, &mut old, n, wanted);
+    if n <= 64 {
+        rebuild_few(slots, n, wanted);
+        return;
+    }
+    rebuild_most(slots, n, wanted);
 }
 
 // The slots that there are once a fingerprint is inserted: doubled from the present number until those held and it are at most

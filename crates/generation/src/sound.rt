@@ -1,13 +1,13 @@
 // The soundness test of one generation's words, whatever they are.
 use crate::Generation;
-use crate::slots::find;
-use model::Probe;
+use crate::slots::first_slot;
+use crate::slots::next_slot;
 use numbers::bounds;
 ghost use mathlib.Core.Path.{_≡_};
 ghost use mathlib.Core.Bool.{cond};
 ghost use Prim.Native.Nat.{_≤_, _<_};
 ghost use lib.Dec.{eqb};
-ghost use lib.ListN.{length};
+ghost use lib.ListN.{length, getD};
 ghost use Rattle.model.specs.GenerationWords.{reached, slots-sound, filled-sound, generation-sound};
 
 // 1 for a number that is not 0, as of a slot that is held or of how many a generation holds, else 0.
@@ -20,19 +20,33 @@ pub fn one_if_held(word: u64) -> u64
     1
 }
 
-// Slot i, whose word this is, is empty, or probing for its fingerprint ends there.
+// Slot i, whose word this is, is empty, or probing for its fingerprint ends there. Slots are compared by their numbers: most
+// fingerprints lie where probing for them starts, and are known to without a look at another slot.
 fn is_reached(slots: &[u64], i: usize, word: u64) -> bool
+    requires { ⌜ (i < length (now slots)) × (word ≡ getD (now slots) i 0) ⌝ }
     ensures { λ r. ⌜ r ≡ reached (now (slots .entry)) i word ⌝ }
 {
     if word == 0 {
         return true;
     }
-    let p = find(slots, word);
-    match p {
-        Probe::Held(j) => j == i,
-        Probe::Free(_) => false,
-        Probe::Nowhere => false,
+    let n = slots.len();
+    let mut j = first_slot(word, n);
+    let mut left = n;
+    while 0 < left {
+        if j == i {
+            return true;
+        }
+        let other = slots[j];
+        if other == word {
+            return false;
+        }
+        if other == 0 {
+            return false;
+        }
+        j = next_slot(j, n);
+        left -= 1;
     }
+    false
 }
 
 // Every slot is reached, and as many are held as the generation says.

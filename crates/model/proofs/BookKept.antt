@@ -3,9 +3,6 @@ use Prim.Native.Nat.{ℕ, _≤_}
 use native.Mathlib.Omega.{arith}
 use mathlib.Core.Path.{_≡_, refl, subst}
 use mathlib.Core.Bool.{true}
-use mathlib.Core.List.{[], _∷_}
-use lib.Dec.{leb}
-use borrow.Author.Tests.{leb-true}
 use Rattle.model.specs.declared.Class.{Class}
 use Rattle.model.specs.declared.Class.the-variants.{Feeders, Peers, Own}
 use Rattle.model.specs.declared.Deliverer.{Deliverer}
@@ -13,14 +10,14 @@ use Rattle.model.specs.declared.Draw.{Draw}
 use Rattle.model.specs.declared.Draw.the-variants.{Granted, Closed, OwnShare, ClassLimit, EqualPart, TwiceLimit, Places, Pairs}
 use Rattle.model.specs.declared.Shares.{Shares}
 use Rattle.model.specs.declared.Limits.{Limits}
-use Rattle.runs.specs.Form.{Form}
 use Rattle.runs.specs.Combine.{EachOk}
-use Rattle.runs.proofs.Cases.{each-true, no}
-use Rattle.model.specs.Numbers.{top32, between, cap32, ceil}
+use Rattle.runs.proofs.Cases.{no}
+use Rattle.model.specs.Numbers.{top32, cap32, ceil}
 use Rattle.model.specs.Settings.{limits-fit, shares-fit}
 use Rattle.model.specs.Class.{class-of, pick, swap}
 use Rattle.model.specs.Book.{Held, Book, entries-in, second-of, granted, draw-says, drawn, undrawn, enter, give-back, expire, opened-book, closed-book, with-limits}
 use Rattle.model.specs.BookWords.{distinct, class-form}
+use Rattle.model.proofs.Bounds.{shares-bounds}
 use Rattle.model.proofs.Choice.{swap-cases}
 use Rattle.model.proofs.Places.{placed, enter-ok, give-back-ok, expire-ok}
 
@@ -38,11 +35,7 @@ unfolding cap32
 short n = omega arith
 
 pub pairs-some : (b : Shares) → shares-fit b ≡ true → 1 ≤ b .pairs
-unfolding shares-fit
-pairs-some b t =
-    let p = each-true (between 1 64 (b .places)) (between 2 512 (b .pairs) ∷ leb (b .feeder) 4_096 ∷ leb (b .peer) 4_096 ∷ []) t in
-    let q = each-true (leb 2 (b .pairs)) (leb (b .pairs) 512 ∷ []) (p .1 .0) in
-    omega (arith, leb-true 2 (b .pairs) (q .0))
+pairs-some b t = omega (arith, shares-bounds b t .some-pairs)
 
 pub granted-is : (d : Draw) → granted d ≡ true → d ≡ Granted
 granted-is Granted e = refl

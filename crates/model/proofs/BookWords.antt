@@ -17,6 +17,7 @@ use Rattle.runs.specs.Form.{Form, Exact}
 use Rattle.runs.specs.Chunks.{flat}
 use Rattle.runs.specs.Combine.{Both, both, upTo, such, led, seen-as, Marks}
 use Rattle.runs.proofs.Cases.{by-test, each-true, all-true, no}
+use Rattle.runs.proofs.Chunks.{length-flat}
 use Rattle.runs.proofs.Exact.{both-exact, up-exact, such-exact, led-exact, seen-exact}
 use Rattle.model.specs.Numbers.{top32}
 use Rattle.model.specs.Class.{class-number, class-of, kind-of, same-class}
@@ -30,9 +31,7 @@ length-read zero ws = refl
 length-read (suc n) ws = ap suc (length-read n (drop 2 ws))
 
 pub length-pairs : (qs : List Pair) → length (flat pair-words qs) ≡ 2 * length qs
-unfolding flat
-length-pairs [] = refl
-length-pairs (q ∷ qs) = omega (arith, length-pairs qs)
+length-pairs qs = let e = length-flat pair-words 2 (λ q. refl) qs in omega arith
 
 pub read-flat : (qs : List Pair) (rest : List ℕ) → read-pairs (length qs) (flat pair-words qs ++ rest) ≡ qs
 unfolding flat read-pairs

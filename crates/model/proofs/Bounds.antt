@@ -7,8 +7,9 @@ use mathlib.Core.List.{List, [], _∷_}
 use lib.Dec.{leb}
 use borrow.Author.Tests.{leb-true, leb-false, ne-eqb, lt-leb}
 use Rattle.model.specs.declared.Usable.{Usable}
+use Rattle.model.specs.declared.Shares.{Shares}
 use Rattle.model.specs.declared.Settings.{Settings}
-use Rattle.runs.proofs.Cases.{by-test, each-true, no}
+use Rattle.runs.proofs.Cases.{by-test, both-true, each-true, no}
 use Rattle.model.specs.Numbers.{between, cap64}
 use Rattle.model.specs.Settings.{ring-of, power-of-two, window-fit, usable-fit, shares-fit, usable-at, fit-at, settings-fit}
 use Rattle.model.proofs.Choice.{or-cases, true-false}
@@ -29,11 +30,40 @@ power-small n t =
     rw (ne-eqb n 2 (λ q. omega arith), ne-eqb n 4 (λ q. omega arith), ne-eqb n 8 (λ q. omega arith), ne-eqb n 16 (λ q. omega arith), ne-eqb n 32 (λ q. omega arith), ne-eqb n 64 (λ q. omega arith), ne-eqb n 128 (λ q. omega arith), ne-eqb n 256 (λ q. omega arith), ne-eqb n 512 (λ q. omega arith), ne-eqb n 1_024 (λ q. omega arith)) at t in
     no (cc))
 
-pub slots-small : (u : Usable) → usable-fit u ≡ true → u .slots ≤ 1_024
+-- the bounds of one register's settings, and of the shares
+pub record UsableBounds (u : Usable) : Type 0 where
+  pub slots : u .slots ≤ 1_024
+  pub ring : ring-of u ≤ 256
+
+pub usable-bounds : (u : Usable) → usable-fit u ≡ true → UsableBounds u
 unfolding usable-fit
-slots-small u t =
-    power-small (u .slots)
-    (each-true (window-fit (u .origin)) (window-fit (u .copy) ∷ between 1 60_000 (u .bucket) ∷ power-of-two (u .slots) ∷ leb (ring-of u) 256 ∷ []) t .1 .1 .1 .0)
+usable-bounds u t =
+    let p = each-true (window-fit (u .origin)) (window-fit (u .copy) ∷ between 1 60_000 (u .bucket) ∷ power-of-two (u .slots) ∷ leb (ring-of u) 256 ∷ []) t in
+    record { slots = power-small (u .slots) (p .1 .1 .1 .0); ring = leb-true (ring-of u) 256 (p .1 .1 .1 .1) }
+
+pub slots-small : (u : Usable) → usable-fit u ≡ true → u .slots ≤ 1_024
+slots-small u t = usable-bounds u t .slots
+
+pub record SharesBounds (b : Shares) : Type 0 where
+  pub places : b .places ≤ 64
+  pub some-pairs : 2 ≤ b .pairs
+  pub pairs : b .pairs ≤ 512
+  pub feeder : b .feeder ≤ 4_096
+  pub peer : b .peer ≤ 4_096
+
+pub shares-bounds : (b : Shares) → shares-fit b ≡ true → SharesBounds b
+unfolding shares-fit
+shares-bounds b t =
+    let p = each-true (between 1 64 (b .places)) (between 2 512 (b .pairs) ∷ leb (b .feeder) 4_096 ∷ leb (b .peer) 4_096 ∷ []) t in
+    let q = both-true (leb 1 (b .places)) (leb (b .places) 64) (p .0) in
+    let r = both-true (leb 2 (b .pairs)) (leb (b .pairs) 512) (p .1 .0) in
+    record {
+      places = leb-true (b .places) 64 (q .1);
+      some-pairs = leb-true 2 (b .pairs) (r .0);
+      pairs = leb-true (b .pairs) 512 (r .1);
+      feeder = leb-true (b .feeder) 4_096 (p .1 .1 .0);
+      peer = leb-true (b .peer) 4_096 (p .1 .1 .1);
+    }
 
 abbrev fits : Settings → List Bool
 fits s = shares-fit (s .shares) ∷ fit-at s 0 ∷ fit-at s 1 ∷ fit-at s 2 ∷ fit-at s 3 ∷ []

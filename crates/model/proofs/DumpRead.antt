@@ -35,7 +35,7 @@ prints-length [] = refl
 prints-length (x ∷ xs) = by-test (eqb x 0) (λ e. simp e (omega (arith, prints-length xs))) (λ e. simp e (omega (arith, prints-length xs)))
 
 -- ---- generations
-read-none : (most : ℕ) (ws : List ℕ) → read-generations most 0 ws ≡ some (record { found = []; rest = ws })
+pub read-none : (most : ℕ) (ws : List ℕ) → read-generations most 0 ws ≡ some (record { found = []; rest = ws })
 unfolding read-generations
 read-none zero ws = refl
 read-none (suc most) [] = refl

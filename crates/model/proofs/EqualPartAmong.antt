@@ -12,8 +12,8 @@ use Rattle.model.specs.View.{words-after}
 use Rattle.model.specs.Once.{Event, Calls, Replaces, Aside, left-by-event}
 use Rattle.model.specs.EqualPart.{Since, since-opening}
 use Rattle.model.specs.EqualPartAmong.{LeavesHeld, HeldAside, since-among, words-among, EqualPartAmong}
-use Rattle.model.proofs.View.{kept-are, view-sound}
-use Rattle.model.proofs.EqualPartWords.{Tied, TiedIf, view-read, list-ties, due}
+use Rattle.model.proofs.View.{kept-are, view-sound, view-read}
+use Rattle.model.proofs.EqualPartWords.{Tied, TiedIf, list-ties, due}
 
 aside-ties : (x : Since) (ws after : List ℕ) → LeavesHeld ws after → Tied x ws → Tied x after
 aside-ties x ws after l t =

@@ -1,24 +1,24 @@
 -- Equal part, of any list of calls on any words (specs/EqualPart). Kept along the list: the words hold what the rules yield since the
 -- opening, and while the limits stay any one holder of a class has at most T units and any two at most T and half of it.
 use mathlib.Core.Path.{_≡_, refl, ap, sym, _∙_, subst}
-use mathlib.Core.Bool.{true, false, _&&_}
+use mathlib.Core.Bool.{true, false}
 use mathlib.Core.List.{List, [], _∷_, _++_}
 use mathlib.Core.Option.{Option, none, some}
 use Prim.Native.Nat.{ℕ, _≤_}
-use lib.Dec.{eqb, leb}
+use lib.Dec.{eqb}
 use lib.ListN.{length}
-use borrow.Author.Tests.{eqb-true, leb-true}
+use borrow.Author.Tests.{eqb-true}
 use Rattle.model.specs.declared.Answer.the-variants.{Refused, Said}
 use Rattle.model.specs.declared.Verdict.the-variants.{New}
 use Rattle.model.specs.declared.Settings.{Settings}
 use Rattle.model.specs.declared.Shares.{Shares}
-use Rattle.runs.proofs.Cases.{by-test, both-true, each-true, no}
+use Rattle.runs.proofs.Cases.{by-test, both-true, no}
 use Rattle.model.specs.Settings.{settings-of, limits-of, usable-at, settings-fit, words-needed}
 use Rattle.model.specs.Book.{Place, together, places-of}
 use Rattle.model.specs.Words.{State}
 use Rattle.model.specs.Judge.{judge, take, take-batch}
 use Rattle.model.specs.Calls.{Asking, Manner, judged, taken, taken-batch, Ticket, Call, Open, On, Expire, SetLimits, Close, HeldBy, ClassTotals, ask-of, register-at, opened, after-judged, after-taken, asked, done-on, step, codes-fit, deed-fits, unfit, is-open, sound, unsound, no-such-register, late-deed, late, held-in, refused, reply, after}
-use Rattle.model.specs.View.{kept-settings, view, Given, answered, left-by, words-after}
+use Rattle.model.specs.View.{Given, answered, left-by, words-after}
 use Rattle.model.specs.Codes.{went-through}
 use Rattle.model.specs.Soundness.{Vetted}
 use Rattle.model.specs.EqualPart.{Since, limits-stay, and-then, gone-through, heard, since-opening, answer-due, Promised, EqualPart, WordsHold, OpeningHolds, cost, HoldersKept, SharesKept}
@@ -217,21 +217,3 @@ holders-kept b limit ps h = record {
 pub shares-kept : (start : List ℕ) (calls : List Given) → SharesKept start calls
 shares-kept start calls x e unchanged c =
     holders-kept (x .settings .shares) (together (x .state .book .limits) c) (places-of c (x .state .book)) (tied-after start calls x e .bounded unchanged c)
-
--- ---- what `view` reads is read under the settings that the words keep
-pub record Read (ws : List ℕ) (t : State) : Type 0 where
-  pub fit : settings-fit (kept-settings ws) ≡ true
-  pub long : words-needed (kept-settings ws) ≤ length ws
-  pub sound : sound (kept-settings ws) ws ≡ true
-  pub holds : held-in (kept-settings ws) ws ≡ t
-
-pub view-read : (ws : List ℕ) (t : State) → view ws ≡ some t → Read ws t
-unfolding view
-view-read ws t e =
-    let k = kept-settings ws in
-    by-test (settings-fit k && (leb (words-needed k) (length ws) && sound k ws))
-    (λ p.
-    let q = each-true (settings-fit k) (leb (words-needed k) (length ws) ∷ sound k ws ∷ []) p in
-    let h : some (held-in k ws) ≡ some t = rw p at e in
-    record { fit = q .0; long = leb-true (words-needed k) (length ws) (q .1 .0); sound = q .1 .1; holds = (cc) })
-    (λ p. let h : none ≡ some t = rw p at e in no (cc))

@@ -1,20 +1,22 @@
 -- Growth, for every number of slots together: how many slots there are after it, and that it keeps exactly what was held. With
 -- it the law of an insertion, and that a well-formed generation stays well formed. Assumes nothing.
-use Prim.Native.Nat.{ℕ, zero, suc, _+_, _-_, _*_, _%_, _^_, _<_, _≤_, max}
+use Prim.Native.Nat.{ℕ, zero, suc, _+_, _*_, _%_, _^_, _<_, _≤_, max}
 use native.Mathlib.Omega.{arith}
-use native.Mathlib.Nat.{pow-suc, pow-le-pow-right, mul-assoc, mul-comm}
+use native.Mathlib.Nat.{pow-suc, pow-le-pow-right, mul-assoc}
 use mathlib.Core.Path.{_≡_, refl, sym, _∙_}
-use mathlib.Core.Bool.{Bool, true, false, cond, _||_}
+use mathlib.Core.Bool.{Bool, true, false, cond, _||_, or-true}
 use mathlib.Core.List.{List, [], _∷_}
 use lib.ListN.{length, getD, replicate, length-replicate}
 use lib.Dec.{eqb, leb}
+use lib.Pow.{pow-add}
 use borrow.Author.Tests.{eq-eqb, ne-eqb, eqb-true, eqb-false, leb-true, leb-false, le-leb}
 use Rattle.runs.proofs.Cases.{by-test, no, each-true}
+use Rattle.runs.proofs.Words.{all-same}
 use Rattle.model.specs.declared.Probe.the-variants.{Held}
 use Rattle.model.specs.Settings.{power-of-two}
 use Rattle.model.specs.Generation.{Generation, empty, count, among, put, doubled, slots-for, refill, grown, insert, dropped}
 use Rattle.model.specs.GenerationWords.{reached-from, filled-sound, GenerationOk}
-use Rattle.model.proofs.Probing.{Found, found-all, all-found, index, put-length, put-found, put-among, put-count, count≤}
+use Rattle.model.proofs.Probing.{Found, found-all, all-found, index, put-length, put-found, put-among, put-count, count-held, count≤}
 
 -- ---- how many slots: the present number doubled, often enough that n fingerprints are at most three quarters, and not oftener
 pub record Doubled (n present wanted : ℕ) : Type 0 where
@@ -89,20 +91,13 @@ power-has k l h =
     many : 10 < k → ⊥
     many g = let b : 2 ^ 11 ≤ 2 ^ k = pow-le-pow-right (omega arith) g in omega arith
 
-pow-add : (a b : ℕ) → 2 ^ a * 2 ^ b ≡ 2 ^ (a + b)
-pow-add zero b = let e : 0 + b ≡ b = omega arith in rw e (omega arith)
-pow-add (suc a) b =
-    let e : suc a + b ≡ suc (a + b) = omega arith in
-    let r = pow-add a b in
-    rw (e, pow-suc 2 a, pow-suc 2 (a + b), ← r, mul-assoc (2 ^ a) 2 (2 ^ b), mul-comm 2 (2 ^ b), ← mul-assoc)
-
 -- a number of slots, 0 or a power of two, is a power of two again after the doubling, while it is within the table
 pub slots-power : (known : Bool) (s : List ℕ) (k : ℕ) → max (length s) 1 ≡ 2 ^ k → slots-for known s ≤ 1_024
     → power-of-two (slots-for known s) ≡ true
 slots-power known s k p h =
     let d = slots-law known s in
     let few = d .enough in
-    let e : slots-for known s ≡ 2 ^ (d .times + k) = d .is ∙ rw p (pow-add (d .times) k) in
+    let e : slots-for known s ≡ 2 ^ (d .times + k) = d .is ∙ rw p (sym (pow-add 2 (d .times) k)) in
     rw e (power-has (d .times + k) (rw (← e) (omega arith)) (rw (← e) h))
 
 -- ---- distinct slots: no fingerprint lies at two places
@@ -136,10 +131,6 @@ count-empty : (x : ℕ) (xs : List ℕ) → eqb x 0 ≡ true → count (x ∷ xs
 unfolding count
 count-empty x xs e = rw e (omega arith)
 
-count-held : (x : ℕ) (xs : List ℕ) → eqb x 0 ≡ false → count (x ∷ xs) ≡ suc (count xs)
-unfolding count
-count-held x xs e = rw e (omega arith)
-
 positive : (x : ℕ) → eqb x 0 ≡ false → 0 < x
 positive x e = omega (arith, eqb-false x 0 e)
 
@@ -172,11 +163,7 @@ refill-among y p (x ∷ xs) t f r =
     let q = put-room t x h room f in
     let l = put-length t x in
     let a = refill-among y p xs (put t x) (put-found t x h f) (omega arith) in
-    rw (e, a, put-among t x h y p room) (by-test (eqb y x) (λ d. rw d (swap (among y xs))) (λ d. rw d)))
-  where
-    swap : (b : Bool) → (b || true) ≡ true
-    swap true = refl
-    swap false = refl
+    rw (e, a, put-among t x h y p room) (by-test (eqb y x) (λ d. rw d (or-true (among y xs))) (λ d. rw d)))
 
 -- and where none was held in both, it is as many
 refill-count : (xs t : List ℕ) → Distinct xs → Found t → ((y : ℕ) → 0 < y → among y xs ≡ true → among y t ≡ false)
@@ -204,12 +191,7 @@ refill-count (x ∷ xs) t d f new r =
 
 -- ---- empty slots
 zeros-found : (n : ℕ) → Found (replicate n 0)
-zeros-found n = record { lies = λ j h. absurd (omega (arith, none n j)) }
-  where
-    none : (m j : ℕ) → getD {A = ℕ} (replicate m 0) j 0 ≡ 0
-    none zero j = refl
-    none (suc m) zero = refl
-    none (suc m) (suc j) = none m j
+zeros-found n = record { lies = λ j h. absurd (omega (arith, all-same {A = ℕ} n j 0)) }
 
 zeros-count : (n : ℕ) → count (replicate n 0) ≡ 0
 unfolding count

@@ -94,7 +94,7 @@ module _ (s : Settings) where
       (in-part (head-part (book-form s) tail (book-exact s))
       (each-part (class-form (s .shares)) (class-exact (s .shares)) (class-width (s .shares)) (λ c. omega arith) c))))
 
-  registers-start-is : (r n : ℕ) → wideRow (λ i. register-form (usable-at s i)) r n ≡ after-registers s r n
+  pub registers-start-is : (r n : ℕ) → wideRow (λ i. register-form (usable-at s i)) r n ≡ after-registers s r n
   unfolding wideRow after-registers
   registers-start-is r zero = refl
   registers-start-is r (suc n) = omega (arith, registers-start-is (suc r) n)

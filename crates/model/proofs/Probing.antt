@@ -286,14 +286,14 @@ module _ (s : List ℕ) (i v : ℕ) (pos : 0 < v) (e : probe s v ≡ Free i) whe
   }
 
 -- counting and membership after a store to an empty slot
-count-cons : (x : ℕ) (s : List ℕ) → 0 < x → count (x ∷ s) ≡ suc (count s)
+pub count-held : (x : ℕ) (s : List ℕ) → eqb x 0 ≡ false → count (x ∷ s) ≡ suc (count s)
 unfolding count
-count-cons x s h = rw (ne-eqb x 0 (λ z. omega arith)) (omega arith)
+count-held x s e = rw e (omega arith)
 
 pub count-set : (s : List ℕ) (i v : ℕ) → i < length s → getD s i 0 ≡ 0 → 0 < v → count (set s i v) ≡ suc (count s)
 unfolding count
 count-set [] i v h z p = absurd (omega arith)
-count-set (x ∷ s) zero v h z p = count-cons v s p ∙ rw (eq-eqb x 0 z) (omega arith)
+count-set (x ∷ s) zero v h z p = count-held v s (ne-eqb v 0 (λ e. omega arith)) ∙ rw (eq-eqb x 0 z) (omega arith)
 count-set (x ∷ s) (suc i) v h z p = let e = count-set s i v (omega arith) z p in rw e (omega arith)
 
 pub count≤ : (s : List ℕ) → count s ≤ length s

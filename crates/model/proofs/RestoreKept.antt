@@ -16,11 +16,10 @@ use Rattle.runs.proofs.Cases.{split-if}
 use Rattle.model.specs.Class.{pick}
 use Rattle.model.specs.Generation.{as-read}
 use Rattle.model.specs.Book.{Book, second-of, granted, draw-says, drawn, undrawn}
-use Rattle.model.specs.Register.{Ring, Register, with-floor}
+use Rattle.model.specs.Register.{Register, with-floor}
 use Rattle.model.specs.Judge.{make-room}
-use Rattle.model.specs.Dump.{Dumped, Dump, Holding, hold-room, hold-one, hold-all, undrawn-all, drop-bucket, failed, Restoring, settled, restore-class, raised-to-dumped, restore, raised-to-proven, resume}
-use Rattle.model.proofs.Choice.{swap-cases}
-use Rattle.model.proofs.RingsKept.{RingOk, RegisterOk, strike-ok, drop-ok}
+use Rattle.model.specs.Dump.{Dumped, Dump, Holding, hold-room, hold-one, hold-all, undrawn-all, Restoring, settled, restore-class, raised-to-dumped, restore, raised-to-proven, resume}
+use Rattle.model.proofs.RingsKept.{RegisterOk, strike-ok, failed-ok, floor-ok}
 use Rattle.model.proofs.BookKept.{BookOk, second-short, drawn-ok, undrawn-ok}
 use Rattle.model.proofs.Judging.{read-positive}
 
@@ -60,15 +59,6 @@ module _ (u : Usable) (b : Shares) (small : u .slots ≤ 1_024) (some-pairs : 1 
     all-fine [] h ok = ok
     all-fine (fp ∷ fps) h ok = all-fine fps (hold-one u b c d fp h) (one-fine fp h ok)
 
-    failed-fine : (reg : Register) → RegisterOk u reg → RegisterOk u (failed c d reg)
-    unfolding failed
-    failed-fine reg ok =
-        let ring = pick c (reg .rings) in
-        record {
-          spare = ok .spare;
-          rings = λ x. swap-cases (λ (y : Ring). RingOk u y) c x (drop-bucket (d .bucket) ring) (reg .rings) (λ e. drop-ok u (d .bucket) ring (ok .rings c)) (ok .rings x);
-        }
-
   returned-fine : (n : ℕ) (who : Deliverer) (s : ℕ) (k : Book) → BookOk b k → BookOk b (undrawn-all n who s k)
   unfolding undrawn-all
   returned-fine zero who s k ok = ok
@@ -82,7 +72,7 @@ module _ (u : Usable) (b : Shares) (small : u .slots ≤ 1_024) (some-pairs : 1 
   unfolding settled
   settled-fine c d whole h ok =
       split-if Whole (h .fits) (λ e. record { register = ok .register; book = ok .book })
-      (λ e. record { register = failed-fine c d (h .register) (ok .register); book = returned-fine (h .draws) (Restored c) _ (h .book) (ok .book) })
+      (λ e. record { register = failed-ok u c d (h .register) (ok .register); book = returned-fine (h .draws) (Restored c) _ (h .book) (ok .book) })
 
   class-fine : (c : Class) (ds : List Dumped) (r : Restoring) → Whole r → Whole (restore-class u b c ds r)
   unfolding restore-class
@@ -91,22 +81,19 @@ module _ (u : Usable) (b : Shares) (small : u .slots ≤ 1_024) (some-pairs : 1 
       let start : Holding = record { register = r .register; book = r .book; draws = 0; fits = true } in
       class-fine c ds _ (settled-fine c d (r .whole) (hold-all u b c d (d .prints) start) (all-fine c d (d .prints) start (record { register = ok .register; book = ok .book })))
 
-  floor-fine : (f : Option ℕ) (reg : Register) → RegisterOk u reg → RegisterOk u (with-floor f reg)
-  floor-fine f reg ok = record { spare = ok .spare; rings = ok .rings }
-
   pub restore-fine : (d : Dump) (reg : Register) (k : Book) → Fine u b reg k → Whole (restore u b d reg k)
   unfolding restore raised-to-dumped
   restore-fine d reg k ok =
       class-fine Own (d .classes .of-own) _ (class-fine Peers (d .classes .of-peers) _ (class-fine Feeders (d .classes .of-feeders) _
-      (record { register = floor-fine _ reg (ok .register); book = ok .book })))
+      (record { register = floor-ok u _ reg (ok .register); book = ok .book })))
 
   proven-fine : (p : Option ℕ) (reg : Register) → RegisterOk u reg → RegisterOk u (raised-to-proven p reg)
   unfolding raised-to-proven
   proven-fine none reg ok = ok
-  proven-fine (some f) reg ok = floor-fine _ reg ok
+  proven-fine (some f) reg ok = floor-ok u _ reg ok
 
   pub resume-fine : (d : Dump) (p : Option ℕ) (reg : Register) (k : Book) → Fine u b reg k → Whole (resume u b d p reg k)
   unfolding resume
   resume-fine d p reg k ok =
-      let r = restore-fine d (with-floor none reg) k (record { register = floor-fine none reg (ok .register); book = ok .book }) in
+      let r = restore-fine d (with-floor none reg) k (record { register = floor-ok u none reg (ok .register); book = ok .book }) in
       record { register = proven-fine p _ (r .register); book = r .book }

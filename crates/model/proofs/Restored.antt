@@ -1,8 +1,8 @@
 -- Restoring a register's dump into an untouched register with the same settings and enough room: all of it is held, as it was.
 use mathlib.Core.Path.{_≡_, refl, ap, ap₂, sym, _∙_, subst}
-use mathlib.Core.Bool.{Bool, true, false, _||_}
+use mathlib.Core.Bool.{true, false, or-false}
 use mathlib.Core.List.{List, [], _∷_, _++_}
-use Prim.Native.Nat.{ℕ, zero, suc, _+_, _-_, _*_, _%_, _≤_, _<_}
+use Prim.Native.Nat.{ℕ, zero, suc, _+_, _*_, _%_, _≤_, _<_}
 use native.Mathlib.Omega.{arith}
 use lib.Dec.{eqb}
 use lib.ListN.{length, getD, set, replicate, length-set}
@@ -110,10 +110,6 @@ all-stamped : (d : Dumped) (fps : List ℕ) (g : Generation) → 0 < length fps 
 all-stamped d [] g h l = absurd (omega arith)
 all-stamped d (fp ∷ fps) g h l = stamped d fps (inserted-one d fp g) (one-bucket d fp g) (one-newest d fp g ∙ (omega arith))
 
-or-none : (a : Bool) → (a || false) ≡ a
-or-none true = refl
-or-none false = refl
-
 -- what a held generation is dumped as, and what is made of it
 abbrev again : Generation → Generation
 again g = inserted-all (as-dumped g) (fingerprints (g .slots)) empty
@@ -124,7 +120,7 @@ again-same most g h f =
     let l = prints-length (g .slots) in
     let s = all-stamped (as-dumped g) (fingerprints (g .slots)) empty (omega arith) (omega arith) in
     record {
-      prints = λ y p. sym (or-none (among y (again g .slots))) ∙ f .prints y p ∙ prints-among y (g .slots) p;
+      prints = λ y p. sym (or-false (among y (again g .slots))) ∙ f .prints y p ∙ prints-among y (g .slots) p;
       newest = s .1;
       bucket = λ z. s .0;
     }

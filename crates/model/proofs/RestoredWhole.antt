@@ -4,15 +4,15 @@ use mathlib.Core.Bool.{true, cond}
 use mathlib.Core.Option.{Option, none, some}
 use Prim.Native.Nat.{ℕ, suc, _+_, _-_, _≤_, min}
 use native.Mathlib.Omega.{arith}
-use lib.Dec.{ltb, eqb}
-use lib.ListN.{length, getD, replicate, length-replicate, getD-replicate, List·getD-eq-default}
-use borrow.Author.Tests.{ltb-true, ltb-false, ne-eqb}
+use lib.Dec.{eqb}
+use lib.ListN.{length, getD, replicate, length-replicate}
+use borrow.Author.Tests.{ne-eqb}
 use Rattle.model.specs.declared.Class.{Class}
 use Rattle.model.specs.declared.Class.the-variants.{Feeders, Peers, Own}
 use Rattle.model.specs.declared.Start.the-variants.{Empty}
 use Rattle.model.specs.declared.Shares.{Shares}
 use Rattle.model.specs.declared.Usable.{Usable}
-use Rattle.runs.proofs.Cases.{by-test}
+use Rattle.runs.proofs.Words.{all-same}
 use Rattle.model.specs.Numbers.{top64, cap64, raise}
 use Rattle.model.specs.Settings.{ring-of}
 use Rattle.model.specs.Class.{pick}
@@ -25,12 +25,6 @@ use Rattle.model.specs.RoundTrip.{EnoughRoom, SameGeneration, SameRing, 
 use Rattle.model.proofs.DumpRead.{dumped-of, dump-of}
 use Rattle.model.proofs.Holding.{with-class}
 use Rattle.model.proofs.Restored.{ClassBack, class-back}
-
--- a ring in which nothing is held
-all-empty : (n j : ℕ) → getD (replicate n empty) j empty ≡ empty
-all-empty n j =
-    by-test (ltb j n) (λ e. getD-replicate n j empty empty (ltb-true j n e))
-    (λ e. List·getD-eq-default (replicate n empty) empty {n = j} (let l = ltb-false j n e in rw length-replicate l))
 
 -- ---- the floor: what is written as floor and 1 is read as the floor, unless that was the largest
 floor-back : (floor : Option ℕ) → ((f : ℕ) → floor ≡ some f → f ≤ top64) → (floor ≡ some top64 → ⊥)
@@ -61,7 +55,7 @@ module _ (u : Usable) (b : Shares) (from : Register) (k : Book) (ok : register-f
   feeders-back =
       let l = ok .1 .0 .0 in
       class-back u b Feeders start k (room .open-book) (from .rings .of-feeders) 0 (ring-of u) blank (places-of Feeders k) (ok .1 .0 .1)
-      (length-replicate (ring-of u) empty) (omega arith) (λ j h. all-empty (ring-of u) j) (room .per-class Feeders)
+      (length-replicate (ring-of u) empty) (omega arith) (λ j h. all-same (ring-of u) j empty) (room .per-class Feeders)
 
   -- after one class the others are as they were
   abbrev after-feeders : Register
@@ -74,7 +68,7 @@ module _ (u : Usable) (b : Shares) (from : Register) (k : Book) (ok : register-f
   peers-back =
       let l = ok .1 .1 .0 .0 in
       class-back u b Peers after-feeders book-after-feeders (room .open-book) (from .rings .of-peers) 0 (ring-of u) blank (places-of Peers k) (ok .1 .1 .0 .1)
-      (length-replicate (ring-of u) empty) (omega arith) (λ j h. all-empty (ring-of u) j) (room .per-class Peers)
+      (length-replicate (ring-of u) empty) (omega arith) (λ j h. all-same (ring-of u) j empty) (room .per-class Peers)
 
   abbrev after-peers : Register
   after-peers = with-class Peers after-feeders book-after-feeders (peers-back .ring₁)
@@ -86,7 +80,7 @@ module _ (u : Usable) (b : Shares) (from : Register) (k : Book) (ok : register-f
   own-back =
       let l = ok .1 .1 .1 .0 in
       class-back u b Own after-peers book-after-peers (room .open-book) (from .rings .of-own) 0 (ring-of u) blank (places-of Own k) (ok .1 .1 .1 .1)
-      (length-replicate (ring-of u) empty) (omega arith) (λ j h. all-empty (ring-of u) j) (room .per-class Own)
+      (length-replicate (ring-of u) empty) (omega arith) (λ j h. all-same (ring-of u) j empty) (room .per-class Own)
 
   restored-is : restore u b (dump-of from) (started u Empty) k
       ≡ record { register = with-class Own after-peers book-after-peers (own-back .ring₁); book = with-places Own (own-back .places₁) book-after-peers; whole = true }

@@ -25,9 +25,8 @@ use Rattle.model.specs.View.{kept-settings, view}
 use Rattle.model.specs.Codes.{went-through}
 use Rattle.model.specs.Soundness.{Vetted}
 use Rattle.model.specs.RoundTrip.{EnoughRoom, BroughtBack, Words64, written, Returns, RoundTrip}
-use Rattle.model.proofs.View.{sound-holds, brought-trimmed, view-sound}
+use Rattle.model.proofs.View.{sound-holds, brought-trimmed, view-sound, view-read}
 use Rattle.model.proofs.Simulates.{entered, fit-settings, vetted-ok, reply-is, simulates}
-use Rattle.model.proofs.EqualPartWords.{view-read}
 use Rattle.model.proofs.BytesRead.{bytes-long}
 use Rattle.model.proofs.DumpRead.{dump-of, dump-back}
 use Rattle.model.proofs.RestoredWhole.{WholeBack, whole-back}

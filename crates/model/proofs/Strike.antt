@@ -18,6 +18,7 @@ use Rattle.model.proofs.Choice.{swap-cases, swap-same, or-right}
 use Rattle.model.proofs.Probing.{Found}
 use Rattle.model.proofs.Growth.{inserted, among-count, ok-found}
 use Rattle.model.proofs.Struck.{Keeps, In, in-same, in-other, Struck, in-class, below-floor}
+use Rattle.model.proofs.Bounds.{ring-positive}
 use Rattle.model.proofs.RingsKept.{RingOk, RegisterOk, ring-some, at-ok, room-found}
 
 -- ---- one generation: an insertion keeps what was held, and holds its own
@@ -39,7 +40,7 @@ insert-new b fp t g z f = record {
 
 module _ (u : Usable) where
   found-at : (ring : Ring) (b : ℕ) → RingOk u ring → Found (generation-at ring b .slots)
-  found-at ring b ok = ok-found (u .slots) (ring-of u) (b % length ring) (generation-at ring b) (at-ok u ring b ok)
+  found-at ring b ok = ok-found (u .slots) (ring-of u) (b % length ring) (generation-at ring b) (at-ok (u .slots) (ring-of u) ring b (ring-positive u) ok)
 
   -- ---- one ring: room is found in a generation of the same bucket, or in one that holds nothing, so nothing is overwritten
   in-strike : (b fp t b₁ fp₁ t₁ i : ℕ) (ring : Ring) → 0 < fp → 0 < fp₁ → RingOk u ring → make-room (u .slots) b₁ fp₁ ring ≡ At i
@@ -50,11 +51,11 @@ module _ (u : Usable) where
       by-test (eqb (b % n) (b₁ % n))
       (λ same. let e : b % n ≡ b₁ % n = eqb-true (b % n) (b₁ % n) same in
       let k : Keeps b fp t g = subst (λ (j : ℕ). Keeps b fp t (getD ring j empty)) e h in
-      room-found u b₁ fp₁ i ring r
-      (λ fit d. let w : b ≡ b₁ = sym (k .of-bucket) ∙ d in
+      room-found (u .slots) b₁ fp₁ i ring r
+      (λ d. let w : b ≡ b₁ = sym (k .of-bucket) ∙ d in
       in-same b fp t (b₁ % n) ring (insert b₁ fp₁ t₁ g) e (ring-some u ring ok)
       (subst (λ (x : ℕ). Keeps b fp t (insert x fp₁ t₁ g)) w (insert-old b fp t fp₁ t₁ g z z₁ (found-at ring b₁ ok) k)))
-      (λ fit d. absurd (omega (arith, among-count fp (g .slots) z (k .holds-it)))))
+      (λ d. absurd (omega (arith, among-count fp (g .slots) z (k .holds-it)))))
       (λ other. in-other b fp t (b₁ % n) ring (insert b₁ fp₁ t₁ g) (eqb-false (b % n) (b₁ % n) other) h)
 
   -- ---- a register: what was struck stays struck

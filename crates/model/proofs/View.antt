@@ -1,26 +1,25 @@
 -- Words keep their settings: the words of a well-formed state give back the settings under which they were written, and the state.
-use Prim.Native.Nat.{ℕ, zero, suc, _+_, _-_, _*_, _≤_, _<_}
+use Prim.Native.Nat.{ℕ, zero, suc, _+_, _-_, _≤_}
 use native.Mathlib.Omega.{arith}
-use mathlib.Core.Path.{_≡_, refl, sym, _∙_, ap, ap₂, subst}
-use mathlib.Core.Bool.{Bool, true, false, cond, _&&_, _||_}
-use mathlib.Core.Option.{Option, none, some}
+use mathlib.Core.Path.{_≡_, refl, _∙_, ap}
+use mathlib.Core.Bool.{true, cond, _&&_}
+use mathlib.Core.Option.{none, some}
 use mathlib.Core.List.{List, [], _∷_, _++_, append-assoc}
-use lib.ListN.{length, getD, take, drop, replicate, length-append}
-use lib.Seq.{take-at, drop-at, drop-append-add, length-take-le}
-use lib.Dec.{eqb, leb, ltb}
+use lib.ListN.{length, getD, drop, replicate, length-append}
+use lib.Seq.{take-at, drop-at, drop-append-add}
+use lib.Dec.{leb, ltb}
 use borrow.Author.Tests.{le-leb, leb-true}
 use Rattle.model.specs.declared.Usable.{Usable}
 use Rattle.model.specs.declared.Settings.{Settings}
-use Rattle.runs.specs.Form.{Form, Exact}
-use Rattle.runs.specs.Combine.{Both, both, row, encRow, EachOk, free}
+use Rattle.runs.specs.Combine.{encRow, EachOk}
 use Rattle.runs.proofs.Cases.{by-test, each-true, no}
 use Rattle.runs.proofs.Exact.{view-back as words-back}
-use Rattle.model.specs.Settings.{no-usable, settings-of, usable-at, settings-fit, register-words, book-words, words-needed}
+use Rattle.model.specs.Settings.{no-usable, settings-of, usable-at, settings-fit, register-words, words-needed}
 use Rattle.model.specs.Register.{Register}
 use Rattle.model.specs.RegisterWords.{heading-width, register-form}
-use Rattle.model.specs.Words.{State, front-width, front-form, book-form, registers-form, unused-width, state-form, of-state}
+use Rattle.model.specs.Words.{State, front-form, book-form, state-form, of-state}
 use Rattle.model.specs.Calls.{sound, held-in}
-use Rattle.model.specs.View.{kept-usable-of, kept-usables, kept-shares-of, registers-start, kept-settings, view}
+use Rattle.model.specs.View.{kept-usables, registers-start, kept-settings, view}
 use Rattle.model.proofs.Words.{register-wide, book-wide, registers≤4, state-wide, front-exact, register-at-exact, book-exact, state-exact}
 
 -- n of them from r on
@@ -138,6 +137,24 @@ module _ (s : Settings) where
           let w = written x rest ok in
           view-sound (state-form s .enc x ++ rest) (w .long) (w .sound) ∙ ap some (w .holds)
 
+-- ---- what `view` reads is read under the settings that the words keep
+pub record Read (ws : List ℕ) (t : State) : Type 0 where
+  pub fit : settings-fit (kept-settings ws) ≡ true
+  pub long : words-needed (kept-settings ws) ≤ length ws
+  pub sound : sound (kept-settings ws) ws ≡ true
+  pub holds : held-in (kept-settings ws) ws ≡ t
+
+pub view-read : (ws : List ℕ) (t : State) → view ws ≡ some t → Read ws t
+unfolding view
+view-read ws t e =
+    let k = kept-settings ws in
+    by-test (settings-fit k && (leb (words-needed k) (length ws) && sound k ws))
+    (λ p.
+    let q = each-true (settings-fit k) (leb (words-needed k) (length ws) ∷ sound k ws ∷ []) p in
+    let h : some (held-in k ws) ≡ some t = rw p at e in
+    record { fit = q .0; long = leb-true (words-needed k) (length ws) (q .1 .0); sound = q .1 .1; holds = (cc) })
+    (λ p. let h : none ≡ some t = rw p at e in no (cc))
+
 -- what `view` reads is a well-formed state, of which the words are the encoding, free words included
 pub record Seen (ws : List ℕ) (x : State) : Type 0 where
   pub fit : settings-fit (kept-settings ws) ≡ true
@@ -145,14 +162,8 @@ pub record Seen (ws : List ℕ) (x : State) : Type 0 where
   pub words : ws ≡ state-form (kept-settings ws) .enc x ++ drop (words-needed (kept-settings ws)) ws
 
 pub view-back : (ws : List ℕ) (x : State) → view ws ≡ some x → Seen ws x
-unfolding view
 view-back ws x e =
     let s = kept-settings ws in
-    by-test (settings-fit s && (leb (words-needed s) (length ws) && sound s ws))
-    (λ t.
-    let p = each-true (settings-fit s) (leb (words-needed s) (length ws) ∷ sound s ws ∷ []) t in
-    let q : some (held-in s ws) ≡ some x = rw t at e in
-    let r : held-in s ws ≡ x = cc in
-    let h = sound-holds s (p .0) ws (leb-true _ _ (p .1 .0)) (p .1 .1) in
-    record { fit = p .0; ok = rw r at (h .ok); words = rw r at (h .words) })
-    (λ t. let q : none ≡ some x = rw t at e in no (cc))
+    let r = view-read ws x e in
+    let h = sound-holds s (r .fit) ws (r .long) (r .sound) in
+    record { fit = r .fit; ok = rw (r .holds) at (h .ok); words = rw (r .holds) at (h .words) }

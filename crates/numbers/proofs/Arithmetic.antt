@@ -1,12 +1,12 @@
 -- Laws on numbers behind the leaf functions: caps, rounding up, and windows judged by differences.
 use Prim.Native.Nat.{ℕ, zero, suc, _+_, _-_, _*_, _/_, _%_, _<_, _≤_, min, max}
-use native.Mathlib.Nat.{le-div-iff-mul-le, div-lt-iff-lt-mul, div-zero, div-add-mod', mul-add-div-right, div-eq-of-lt, mod-lt, mul-le-mul-left, suc-mul}
+use native.Mathlib.Nat.{le-div-iff-mul-le, div-lt-iff-lt-mul, div-zero, div-add-mod', mul-add-div-right, div-eq-of-lt, mod-lt, mul-le-mul, mul-le-mul-left, suc-mul}
 use native.Mathlib.Omega.{arith}
 use mathlib.Core.Path.{_≡_, refl, sym, _∙_, ap}
 use mathlib.Core.Bool.{Bool, true, false, cond, _&&_}
 use lib.Dec.{leb, ltb}
 use borrow.Author.Tests.{leb-true, leb-false, le-leb, lt-leb, ltb-true, ltb-false, lt-ltb, le-ltb}
-use Rattle.runs.proofs.Cases.{by-test}
+use Rattle.runs.proofs.Cases.{by-test, both-true}
 use Rattle.model.specs.declared.Window.{Window}
 use Rattle.model.specs.Numbers.{top64, cap64, ceil}
 use Rattle.model.specs.Judge.{in-window, front-past}
@@ -19,6 +19,13 @@ uncapped n h = omega arith
 pub capped : (n : ℕ) → top64 ≤ n → top64 ≡ cap64 n
 unfolding cap64
 capped n h = omega arith
+
+-- a product of two numbers of 32 bits fits
+pub short-product : (a b : ℕ) → (leb a 4_294_967_295 && leb b 4_294_967_295) ≡ true → a * b ≤ top64
+short-product a b t =
+    let p = both-true (leb a 4_294_967_295) (leb b 4_294_967_295) t in
+    let k = mul-le-mul (leb-true a 4_294_967_295 (p .0)) (leb-true b 4_294_967_295 (p .1)) in
+    omega (arith, k)
 
 -- a product fits exactly where one factor is within the quotient
 module _ (a b : ℕ) (h : (b ≡ 0) → ⊥) where

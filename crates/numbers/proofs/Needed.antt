@@ -1,19 +1,20 @@
 -- The words needed, register by register, and that they are few.
-use Prim.Native.Nat.{ℕ, zero, suc, _+_, _-_, _*_, _<_, _≤_}
-use native.Mathlib.Nat.{mul-le-mul, mul-le-mul-left}
+use Prim.Native.Nat.{ℕ, zero, suc, _+_, _*_, _<_, _≤_}
+use native.Mathlib.Nat.{mul-le-mul}
 use native.Mathlib.Omega.{arith}
-use mathlib.Core.Path.{_≡_, refl, sym, _∙_, ap}
-use mathlib.Core.Bool.{Bool, true, false, cond, _&&_, _||_}
-use mathlib.Core.List.{List, [], _∷_}
+use mathlib.Core.Path.{_≡_, refl}
+use mathlib.Core.Bool.{true}
+use mathlib.Core.List.{[], _∷_}
 use lib.Dec.{leb}
 use borrow.Author.Tests.{leb-true, le-leb, lt-leb}
-use Rattle.runs.proofs.Cases.{by-test, both-true, each-true}
+use Rattle.runs.proofs.Cases.{both-true, each-true}
 use Rattle.model.specs.declared.Usable.{Usable}
 use Rattle.model.specs.declared.Shares.{Shares}
 use Rattle.model.specs.declared.Settings.{Settings}
 use Rattle.model.specs.Numbers.{between}
-use Rattle.model.specs.Settings.{ring-of, power-of-two, window-fit, usable-fit, shares-fit, usable-at, fit-at, settings-fit, register-words, registers-words, words-for, book-words, words-needed}
-use Rattle.model.proofs.Bounds.{power-small}
+use Rattle.model.specs.Settings.{ring-of, usable-fit, shares-fit, usable-at, fit-at, settings-fit, register-words, registers-words, words-for, book-words, words-needed}
+use Rattle.model.specs.BookWords.{place-width}
+use Rattle.model.proofs.Bounds.{usable-bounds, shares-bounds}
 
 -- ---- bounds that settings in bounds have
 -- one register's
@@ -23,11 +24,9 @@ pub record Few (u : Usable) : Type 0 where
   pub words : 3 * ring-of u * (u .slots + 4) ≤ 789_504
 
 pub usable-few : (u : Usable) → usable-fit u ≡ true → Few u
-unfolding usable-fit
 usable-few u fit =
-    let p = each-true (window-fit (u .origin)) (window-fit (u .copy) ∷ between 1 60_000 (u .bucket) ∷ power-of-two (u .slots) ∷ leb (ring-of u) 256 ∷ []) fit in
-    let r = leb-true (ring-of u) 256 (p .1 .1 .1 .1) in
-    let k = power-small (u .slots) (p .1 .1 .1 .0) in
+    let r = usable-bounds u fit .ring in
+    let k = usable-bounds u fit .slots in
     let a : 3 * ring-of u ≤ 768 = omega arith in
     let b : u .slots + 4 ≤ 1_028 = omega arith in
     record { ring = r; slots = k; words = let m = mul-le-mul a b in omega (arith, m) }
@@ -39,13 +38,9 @@ pub record FewPlaces (b : Shares) : Type 0 where
   pub words : 3 * (b .places) * (2 * (b .pairs) + 4) ≤ 197_376
 
 pub shares-few : (b : Shares) → shares-fit b ≡ true → FewPlaces b
-unfolding shares-fit
 shares-few b fit =
-    let p = each-true (between 1 64 (b .places)) (between 2 512 (b .pairs) ∷ leb (b .feeder) 4_096 ∷ leb (b .peer) 4_096 ∷ []) fit in
-    let q = both-true (leb 1 (b .places)) (leb (b .places) 64) (p .0) in
-    let r = both-true (leb 2 (b .pairs)) (leb (b .pairs) 512) (p .1 .0) in
-    let x = leb-true (b .places) 64 (q .1) in
-    let y = leb-true (b .pairs) 512 (r .1) in
+    let x = shares-bounds b fit .places in
+    let y = shares-bounds b fit .pairs in
     let u : 3 * (b .places) ≤ 192 = omega arith in
     let v : 2 * (b .pairs) + 4 ≤ 1_028 = omega arith in
     record { places = x; pairs = y; words = let m = mul-le-mul u v in omega (arith, m) }
@@ -87,7 +82,7 @@ pub register-some : (u : Usable) → usable-fit u ≡ true → (ring : ℕ) → 
 unfolding register-words
 register-some u fit ring r = (rw r, rw r (usable-few u fit .words))
 
-pub book-some : (b : Shares) → shares-fit b ≡ true
-    → (3 * (b .places) * (2 * (b .pairs) + 4) ≡ book-words b) × (3 * (b .places) * (2 * (b .pairs) + 4) ≤ 197_376)
+pub book-some : (b : Shares) → shares-fit b ≡ true → (place : ℕ) → place ≡ place-width (b .pairs)
+    → (3 * (b .places) * place ≡ book-words b) × (3 * (b .places) * place ≤ 197_376)
 unfolding book-words
-book-some b fit = (refl, shares-few b fit .words)
+book-some b fit place p = (rw p, rw p (shares-few b fit .words))

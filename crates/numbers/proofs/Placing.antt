@@ -20,12 +20,13 @@ use Rattle.numbers.specs.Places.{RegisterAt}
 use Rattle.numbers.proofs.Needed.{Few, usable-few, FewPlaces, shares-few}
 
 -- ---- a class in the book
-pub class-few : (b : Shares) → shares-fit b ≡ true → b .places * (2 * (b .pairs) + 4) ≤ 65_792
-class-few b fit =
-    let f = shares-few b fit in
-    let v : 2 * (b .pairs) + 4 ≤ 1_028 = let p = f .pairs in omega arith in
-    let m = mul-le-mul (f .places) v in
-    omega (arith, m)
+-- at most 64 places have few words
+pub places-few : (n place : ℕ) → n ≤ 64 → place ≤ 1_028 → n * place ≤ 65_792
+places-few n place h k = let m = mul-le-mul h k in omega (arith, m)
+
+-- where a part ends that starts at word a and has n words
+pub ends-at : {w n : ℕ} (a : ℕ) → w ≡ n → a + w ≡ a + n
+ends-at a e = ap (λ (k : ℕ). a + k) e
 
 -- three of a width lie one after the other
 third : (c : Class) (k : ℕ) → class-number c * k + k ≤ 3 * k
@@ -100,13 +101,13 @@ needed-few s fit =
     omega (arith, k, b)
 
 -- ---- a register's settings and place, as the code has them
-pub register-placed : (s : Settings) (r : ℕ) (u : Usable) (start width : ℕ) → settings-fit s ≡ true → u ≡ usable-at s r → start ≡ register-start s r
+pub register-placed : (s : Settings) (r : ℕ) (u : Usable) (start width : ℕ) → settings-fit s ≡ true → r < s .registers → u ≡ usable-at s r → start ≡ register-start s r
     → start + register-width (usable-at s r) ≤ words-needed s → width ≡ register-width u
     → RegisterAt s r (record { u = u; start = start; end = start + width })
-register-placed s r u start width fit usable from within wide =
+register-placed s r u start width fit h usable from within wide =
     let e : width ≡ register-width (usable-at s r) = rw (← usable) wide in
     let m = needed-few s fit in
-    record { usable = usable; start = from; end = ap (λ (n : ℕ). start + n) e; within = omega arith; few = omega arith }
+    record { below = h; usable = usable; start = from; end = ap (λ (n : ℕ). start + n) e; within = omega arith; few = omega arith }
 
 -- ---- a class's number times a width, as the code has it
 pub number-few : (c : Class) → class-number c ≤ 2

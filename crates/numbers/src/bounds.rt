@@ -1,5 +1,6 @@
 // Settings and limits: read from the words that a host hands in, tested against their bounds, and the words that they need.
 use crate::spans;
+use crate::starts;
 use model::Limits;
 use model::Settings;
 use model::Shares;
@@ -196,7 +197,8 @@ fn book_words(b: Shares) -> u64
     requires { ⌜ shares-within b ≡ true ⌝ }
     ensures { λ r. ⌜ (r ≡ places-words b) × (r ≤ 197_376) ⌝ }
 {
-    3 * b.places * (2 * b.pairs + 4)
+    let place = starts::place_width(b) as u64;
+    3 * b.places * place
 }
 
 // The words that settings in bounds need.

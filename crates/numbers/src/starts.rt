@@ -10,7 +10,8 @@ ghost use mathlib.Core.Path.{_≡_};
 ghost use mathlib.Core.Bool.{true};
 ghost use Prim.Native.Nat.{_+_, _*_, _<_, _≤_};
 ghost use Rattle.model.specs.Settings.{settings-fit, shares-fit, usable-fit, usable-at, words-needed};
-ghost use Rattle.model.specs.Words.{class-width as class-words, class-start as class-from, ring-width as ring-words, register-width as register-words, ring-start as ring-from, register-start as register-from};
+ghost use Rattle.model.specs.BookWords.{place-width as place-words};
+ghost use Rattle.model.specs.Words.{class-width as class-words, class-start as class-from, ring-width as ring-words, register-width as register-words, register-start as register-from};
 ghost use Rattle.numbers.specs.Places.{RegisterAt};
 
 // A register's settings, and where its words lie.
@@ -28,12 +29,29 @@ pub fn needed(s: Settings) -> usize
     bounds::words_needed(s) as usize
 }
 
+// The words of a place in the book: its kind, number, entries and how many pairs it has, then E pairs of two words each.
+pub fn place_width(b: Shares) -> usize
+    requires { ⌜ b .pairs ≤ 512 ⌝ }
+    ensures { λ n. ⌜ (n ≡ place-words (b .pairs)) × (n ≤ 1_028) ⌝ }
+{
+    2 * (b.pairs as usize) + 4
+}
+
+// Where place i of a class starts in the class's words, after the four of totals.
+pub fn place_start(b: Shares, i: usize) -> usize
+    requires { ⌜ (b .pairs ≤ 512) × (i ≤ 64) ⌝ }
+    ensures { λ a. ⌜ (a ≡ 4 + i * place-words (b .pairs)) × (a ≤ 65_796) ⌝ }
+{
+    let place = place_width(b);
+    4 + i * place
+}
+
 // The words of a class in the book: four of totals, and P places.
 pub fn class_width(b: Shares) -> usize
     requires { ⌜ shares-fit b ≡ true ⌝ }
     ensures { λ n. ⌜ (n ≡ class-words b) × (n ≤ 65_796) ⌝ }
 {
-    let place = 2 * (b.pairs as usize) + 4;
+    let place = place_width(b);
     4 + (b.places as usize) * place
 }
 
@@ -63,16 +81,6 @@ pub fn register_width(u: Usable) -> usize
 {
     let ring = ring_width(u);
     24 + 3 * ring
-}
-
-// Where a class's ring starts within its register.
-pub fn ring_start(u: Usable, class: Class) -> usize
-    requires { ⌜ usable-fit u ≡ true ⌝ }
-    ensures { λ a. ⌜ (a ≡ ring-from u class) × (a + ring-words u ≤ register-words u) ⌝ }
-{
-    let width = ring_width(u);
-    let number = codes::class_number(class) as usize;
-    24 + number * width
 }
 
 // Where a register starts: after the front, the book, and the registers before it.

@@ -4,7 +4,7 @@ use native.Mathlib.Nat.{suc-mul, zero-mul}
 use native.Mathlib.Omega.{arith}
 use mathlib.Core.Path.{_≡_, _∙_, ap, ap₂}
 use mathlib.Core.List.{List, [], _∷_, _++_}
-use lib.ListN.{length, replicate, replicate-append-replicate, length-replicate}
+use lib.ListN.{replicate, replicate-append-replicate, length-replicate}
 use lib.Seq.{take-all}
 use Rattle.model.specs.declared.Class.{Class}
 use Rattle.model.specs.declared.Class.the-variants.{Feeders, Peers, Own}
@@ -13,10 +13,9 @@ use Rattle.model.specs.declared.Settings.{Settings}
 use Rattle.model.specs.declared.Usable.{Usable}
 use Rattle.model.specs.declared.Start.{Start}
 use Rattle.model.specs.declared.Start.the-variants.{Empty, Fallback, At}
-use Rattle.runs.specs.Form.{Form}
-use Rattle.runs.specs.Combine.{encUp}
 use Rattle.runs.specs.Chunks.{flat}
 use Rattle.runs.specs.Words.{pad}
+use Rattle.runs.proofs.Exact.{up-none}
 use Rattle.model.specs.Numbers.{cap64}
 use Rattle.model.specs.Settings.{ring-of}
 use Rattle.model.specs.Class.{three}
@@ -38,13 +37,6 @@ thrice : (n : ℕ) → _≡_ {A = List ℕ} (replicate n 0 ++ (replicate n 0 ++ 
 thrice n = let e : n + (n + n) ≡ 3 * n = omega arith in rw (join n n, join n (n + n), e)
 
 -- ---- the book
-unused-places : {A : Type 0} (F : Form A) (n : ℕ) → encUp F n [] ≡ replicate (n * F .wide) 0
-unfolding encUp
-unused-places F zero = let e = zero-mul (F .wide) in rw e
-unused-places F (suc n) =
-    let e : F .wide + n * F .wide ≡ suc n * F .wide = let m = suc-mul n (F .wide) in omega arith in
-    rw (unused-places F n, join (F .wide) (n * F .wide), e)
-
 -- a class in which nobody has a place
 abbrev pub nobody : Held
 nobody = record { places = []; expired = 0 }
@@ -52,7 +44,7 @@ nobody = record { places = []; expired = 0 }
 class-blank : (b : Shares) (c : Class) → class-form b c .enc nobody ≡ replicate (class-width b) 0
 unfolding entries-in units
 class-blank b c =
-    ap (λ (l : List ℕ). 0 ∷ 0 ∷ 0 ∷ 0 ∷ l) (unused-places (place-form c (b .pairs)) (b .places)) ∙ join 4 (b .places * (2 * (b .pairs) + 4))
+    ap (λ (l : List ℕ). 0 ∷ 0 ∷ 0 ∷ 0 ∷ l) (up-none (place-form c (b .pairs)) (b .places)) ∙ join 4 (b .places * (2 * (b .pairs) + 4))
 
 pub book-blank : (s : Settings) → book-form s .enc (three nobody) ≡ replicate (3 * class-width (s .shares)) 0
 book-blank s =

@@ -8,12 +8,13 @@ use lib.ListN.{length, drop, replicate, length-append, length-replicate}
 use lib.Seq.{take-append-seam, drop-append-seam}
 use Rattle.model.specs.declared.Limits.{Limits}
 use Rattle.model.specs.declared.Settings.{Settings}
-use Rattle.runs.specs.Combine.{encRow, wideRow}
+use Rattle.runs.specs.Combine.{encRow}
 use Rattle.model.specs.Settings.{limits-of, usable-at, settings-fit, words-needed}
 use Rattle.model.specs.Book.{opened-book}
 use Rattle.model.specs.RegisterWords.{encode-heading, register-form}
 use Rattle.model.specs.Words.{encode-front, state-form, unused-width, class-width, ring-width, after-registers, register-start}
 use Rattle.model.specs.Calls.{start-all, opened}
+use Rattle.model.proofs.Parts.{registers-start-is}
 use Rattle.model.proofs.Words.{state-wide}
 use Rattle.numbers.proofs.Placing.{after-more}
 use Rattle.opening.specs.Opened.{opened-with, front-at, heading-at, start-at, over, with-heading, with-headings}
@@ -79,14 +80,9 @@ module _ (s : Settings) (starts : List ℕ) where
       ∙ ap (λ (l : List ℕ). done ++ l) (sym (append-assoc (words-at r) (rows (suc r) n) (replicate m 0)) ∙ ap (λ (l : List ℕ). l ++ replicate m 0) (sym (row-more r n)))
 
 -- ---- the words needed, part by part
-rows-wide : (s : Settings) (r n : ℕ) → wideRow (λ i. register-form (usable-at s i)) r n ≡ after-registers s r n
-unfolding wideRow after-registers
-rows-wide s r zero = refl
-rows-wide s r (suc n) = omega (arith, rows-wide s (suc r) n)
-
 parts-wide : (s : Settings) → settings-fit s ≡ true
     → words-needed s ≡ 20 + (3 * class-width (s .shares) + (after-registers s 0 (s .registers) + unused-width s))
-parts-wide s fit = let w = state-wide s fit in let r = rows-wide s 0 (s .registers) in omega arith
+parts-wide s fit = let w = state-wide s fit in let r = registers-start-is s 0 (s .registers) in omega arith
 
 -- ---- the front over the first zeros, then the registers
 pub opened-words : (s : Settings) (limits : Limits) (starts : List ℕ) → settings-fit s ≡ true

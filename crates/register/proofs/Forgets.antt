@@ -3,7 +3,6 @@ use Prim.Native.Nat.{ℕ, _-_}
 use mathlib.Core.Path.{_≡_, refl, sym, ap, _∙_}
 use mathlib.Core.Bool.{Bool, true, false, cond}
 use mathlib.Core.List.{List}
-use mathlib.Core.Option.{Option, none}
 use lib.Dec.{eqb}
 use lib.ListN.{set}
 use borrow.Author.Tests.{eq-eqb, ne-eqb}
@@ -12,11 +11,11 @@ use Rattle.model.specs.declared.Class.{Class}
 use Rattle.model.specs.declared.Usable.{Usable}
 use Rattle.model.specs.Numbers.{raise}
 use Rattle.model.specs.Class.{pick}
-use Rattle.model.specs.Register.{Ring, Register, with-floor}
+use Rattle.model.specs.Settings.{ring-of}
+use Rattle.model.specs.Register.{Register, with-floor}
 use Rattle.model.specs.RegisterWords.{register-form}
 use Rattle.model.specs.Dump.{drop-bucket, raised-to-dumped}
-use Rattle.model.proofs.Choice.{swap-cases}
-use Rattle.model.proofs.RingsKept.{RingOk, from-form, to-form, drop-ok}
+use Rattle.model.proofs.RingsKept.{from-form, to-form, swapped-ok, drop-ok}
 use Rattle.generation.specs.declared.Dropped.{Dropped}
 use Rattle.ring.specs.Ring.{drop-bucket-says}
 use Rattle.register.specs.Rules.{silent, raised, in-ring, failed-at, floor-gone}
@@ -30,8 +29,7 @@ module _ (u : Usable) (c : Class) (b newest : ℕ) where
       let r = from-form u reg ok in
       to-form u (in-ring c (drop-bucket b) reg) (record {
         spare = r .spare;
-        rings = λ d. swap-cases (λ (x : Ring). RingOk u x) c d (drop-bucket b (pick c (reg .rings))) (reg .rings)
-            (λ e. drop-ok u b (pick c (reg .rings)) (r .rings c)) (r .rings d);
+        rings = swapped-ok u c (drop-bucket b (pick c (reg .rings))) reg r (drop-ok (u .slots) (ring-of u) b (pick c (reg .rings)) (r .rings c));
       })
 
   failed-ok : (reg : Register) → register-form u .Ok reg → register-form u .Ok (failed-at c b newest reg)

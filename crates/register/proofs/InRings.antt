@@ -1,8 +1,9 @@
 -- A class's ring within its register's words: what is read there is read of the register, and what is done there is done to it.
 -- Assumes nothing.
-use Prim.Native.Nat.{ℕ, _-_, _≤_}
+use Prim.Native.Nat.{ℕ, _+_, _-_, _*_, _<_, _≤_}
 use native.Mathlib.Omega.{arith}
-use mathlib.Core.Path.{_≡_, sym, ap, subst, _∙_}
+use mathlib.Core.Path.{_≡_, refl, sym, ap, subst, _∙_}
+use mathlib.Core.Bool.{true}
 use mathlib.Core.List.{List}
 use lib.ListN.{length}
 use borrow.Rule.Slice.PartMut.{midOf, putMid, mid-len}
@@ -10,22 +11,41 @@ use Rattle.runs.proofs.Turns.{lies-at, part-is, part-reads, part-turns, stays}
 use Rattle.model.specs.declared.Class.{Class}
 use Rattle.model.specs.declared.Room.{Room}
 use Rattle.model.specs.declared.Usable.{Usable}
-use Rattle.model.specs.Class.{pick}
+use Rattle.model.specs.Settings.{usable-fit}
+use Rattle.model.specs.Class.{class-number, pick}
 use Rattle.model.specs.Register.{Ring, Register}
 use Rattle.model.specs.RegisterWords.{ring-form, register-form}
-use Rattle.model.specs.Words.{ring-width}
+use Rattle.model.specs.Words.{ring-width, ring-start}
 use Rattle.model.specs.Judge.{make-room}
 use Rattle.model.proofs.Words.{ring-exact}
 use Rattle.model.proofs.RegisterWords.{register-exact}
 use Rattle.model.proofs.Parts.{ring-part}
 use Rattle.model.proofs.Bounds.{ring-positive}
 use Rattle.numbers.proofs.Needed.{usable-few}
-use Rattle.ring.specs.Ring.{RingWords, RingReads, RingTurns}
+use Rattle.numbers.proofs.Placing.{ring-within}
+use Rattle.ring.specs.Ring.{PositionOf, RingWords, RingReads, RingTurns}
 use Rattle.register.specs.declared.places.Place.{Place}
+use Rattle.register.specs.declared.places.Rings.{Rings}
 use Rattle.register.specs.Rules.{in-ring}
-use Rattle.register.specs.Words.{RegisterWords, RegisterReads, RegisterTurns, RingAt}
+use Rattle.register.specs.Words.{RegisterWords, RegisterReads, RegisterTurns, RingsOf, RingAt}
+
+-- ---- where a class's ring lies, among rings of the register's sizes
+pub placed : (u : Usable) (c : Class) (n : Rings) (k start : ℕ) → RingsOf u n → k ≡ class-number c → start ≡ 24 + k * n .width
+    → RingAt u c (record { slots = u .slots; ring = n .ring; start = start; end = start + n .width })
+placed u c n k start l e at =
+    let from : start ≡ ring-start u c = rw (at, e, l .width) in
+    let w = ring-within u c in
+    let v = l .width in
+    record { slots = refl; ring = l .ring; start = from; end = rw (l .width); within = omega arith }
+
+-- a bucket's position, asked for once for all three classes
+pub position-asks : (u : Usable) (n : Rings) → RingsOf u n → usable-fit u ≡ true → (0 < n .ring) × (n .ring ≤ 256)
+position-asks u n l fit = rw (l .ring) (ring-positive u, usable-few u fit .ring)
 
 module _ (u : Usable) (c : Class) (p : Place) (l : RingAt u c p) where
+  pub ring-position : (n : Rings) (b i : ℕ) → RingsOf u n → PositionOf b (n .ring) i → PositionOf b (p .ring) i
+  ring-position n b i sizes q = rw (l .ring ∙ sym (sizes .ring)) q
+
   -- what a function on the ring asks
   pub ring-asks : (ws : List ℕ) → RegisterWords u ws → RingWords (p .slots) (p .ring) (midOf (p .start) (p .end - p .start) ws)
   ring-asks ws w =

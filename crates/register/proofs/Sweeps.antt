@@ -1,26 +1,22 @@
 -- A sweep, ring by ring, and the three ways that a sweep takes. Assumes nothing.
-use Prim.Native.Nat.{ℕ, zero, suc, _-_, _≤_, _<_, max}
+use Prim.Native.Nat.{ℕ, _-_, _≤_, _<_, max}
 use native.Mathlib.Omega.{arith}
 use mathlib.Core.Path.{_≡_, refl, sym, ap, _∙_}
-use mathlib.Core.Bool.{Bool, true, false, not}
+use mathlib.Core.Bool.{Bool, true, false}
 use mathlib.Core.Option.{none}
 use mathlib.Core.List.{List}
 use lib.Dec.{leb}
 use lib.ListN.{getD}
 use borrow.Author.Tests.{le-leb, lt-leb}
-use Rattle.runs.proofs.Cases.{by-test}
 use Rattle.runs.proofs.Turns.{then-with}
 use Rattle.model.specs.declared.Class.{Class}
 use Rattle.model.specs.declared.Class.the-variants.{Feeders, Peers, Own}
 use Rattle.model.specs.declared.Usable.{Usable}
 use Rattle.model.specs.Settings.{ring-of}
 use Rattle.model.specs.Class.{pick}
-use Rattle.model.specs.Generation.{dropped}
-use Rattle.model.specs.Register.{Ring, Register, generation-at, with-generation, passed, Swept, visit, visits, sweep-ring, sweep-rings, swept-to, through-of, sweep}
+use Rattle.model.specs.Register.{Register, sweep-ring, sweep-rings, swept-to, through-of, sweep}
 use Rattle.model.specs.RegisterWords.{register-form}
-use Rattle.model.proofs.Choice.{swap-cases}
-use Rattle.model.proofs.Growth.{dropped-ok}
-use Rattle.model.proofs.RingsKept.{RingOk, from-form, to-form, with-ok, sweep-ok}
+use Rattle.model.proofs.RingsKept.{from-form, to-form, swapped-ok, swept-ok, sweep-ok}
 use Rattle.generation.specs.declared.Dropped.{Dropped}
 use Rattle.ring.specs.Sweep.{swept-ring, swept-says, raised-by}
 use Rattle.ring.proofs.Sweeping.{sweep-floor}
@@ -30,29 +26,13 @@ use Rattle.register.proofs.InRings.{still-words}
 
 -- ---- a swept ring is well formed
 module _ (u : Usable) where
-  visit-ok : (through b : ℕ) (w : Swept) → RingOk u (w .ring) → RingOk u (visit through b w .ring)
-  unfolding visit
-  visit-ok through b w ok =
-      by-test (passed through (generation-at (w .ring) b))
-      (λ e. rw e (with-ok u (w .ring) b (dropped (generation-at (w .ring) b)) ok (dropped-ok (u .slots) (ring-of u) _ (generation-at (w .ring) b))))
-      (λ e. rw e ok)
-
-  visits-ok : (n through b : ℕ) (w : Swept) → RingOk u (w .ring) → RingOk u (visits n through b w .ring)
-  unfolding visits
-  visits-ok zero through b w ok = ok
-  visits-ok (suc n) through b w ok = visits-ok n through (suc b) (visit through b w) (visit-ok through b w ok)
-
-  ring-ok : (a through : ℕ) (ring : Ring) → RingOk u ring → RingOk u (swept-ring a through ring)
-  unfolding sweep-ring
-  ring-ok a through ring ok = visits-ok (through - a) through a (record { floor = none; ring = ring }) ok
-
   in-ring-ok : (c : Class) (a through : ℕ) (reg : Register) → register-form u .Ok reg → register-form u .Ok (in-ring c (swept-ring a through) reg)
   in-ring-ok c a through reg ok =
       let r = from-form u reg ok in
       to-form u (in-ring c (swept-ring a through) reg) (record {
         spare = r .spare;
-        rings = λ d. swap-cases (λ (x : Ring). RingOk u x) c d (swept-ring a through (pick c (reg .rings))) (reg .rings)
-            (λ e. ring-ok a through (pick c (reg .rings)) (r .rings c)) (r .rings d);
+        rings = swapped-ok u c (swept-ring a through (pick c (reg .rings))) reg r
+            (swept-ok (u .slots) (ring-of u) a through none (pick c (reg .rings)) (r .rings c));
       })
 
   class-ok : (c : Class) (a through : ℕ) (reg : Register) → register-form u .Ok reg → register-form u .Ok (swept-class c a through reg)
@@ -133,6 +113,16 @@ module _ (u : Usable) where
           let z = rw e at (t .does reg ok is .0) in
           (z ∙ ap (register-form u .enc) (back reg (sym (p .says reg ok is) ∙ n) k), refl);
     }
+
+    -- swept up to that bucket already: the words publish it, and nothing changes
+    pub sweep-same : (ws : List ℕ) (through : ℕ) (pending : Bool) → RegisterReads u (λ reg. reg .pending) ws pending → pending ≡ false → through ≡ through-of u ms
+        → through ≡ getD ws 6 0 → RegisterTurns u (sweep u ms) silent ws ws (tt {0})
+    sweep-same ws through pending p n e h =
+        sweep-back ws ws through pending p n e (omega arith) (record {
+          does = λ reg ok is.
+              let s : getD ws 6 0 ≡ reg .swept = ap (λ (l : List ℕ). getD l 6 0) is in
+              (is ∙ ap (λ (b : ℕ). register-form u .enc (swept-to b reg)) (sym (h ∙ s)), refl);
+        })
 
     pub sweep-on : (ws last : List ℕ) (a through : ℕ) (pending : Bool) → RegisterReads u (λ reg. reg .pending) ws pending → pending ≡ false → through ≡ through-of u ms
         → getD ws 6 0 < through → a ≡ max (getD ws 6 0) (through - ring-of u)

@@ -12,6 +12,7 @@ use Rattle.model.specs.Register.{Register}
 use Rattle.model.specs.RegisterWords.{register-form}
 use Rattle.model.specs.Words.{ring-width, register-width, ring-start}
 use Rattle.register.specs.declared.places.Place.{Place}
+use Rattle.register.specs.declared.places.Rings.{Rings}
 
 -- Contracts, each said of every register that the words may be.
 abbrev pub RegisterReads : {R : Type 0} → Usable → (Register → R) → List ℕ → R → Type 0
@@ -26,6 +27,13 @@ pub record RegisterWords (u : Usable) (ws : List ℕ) : Type 0 where
   pub long : length ws ≡ register-width u
   pub least : 24 ≤ length ws
   pub is : Is (register-form u .enc) (register-form u .Ok) ws
+
+-- the sizes of a register's rings
+pub record RingsOf (u : Usable) (n : Rings) : Type 0 where
+  pub ring : n .ring ≡ ring-of u
+  pub width : n .width ≡ ring-width u
+  -- few words, whatever the settings in bounds
+  pub few : n .width ≤ 263_168
 
 -- where a class's ring lies
 pub record RingAt (u : Usable) (c : Class) (p : Place) : Type 0 where

@@ -13,12 +13,24 @@ ghost use Rattle.model.specs.Calls.{floor-answer};
 ghost use Rattle.register.specs.Rules.{raised, raised-with, begin-says, swept-answer, silent};
 ghost use Rattle.register.specs.Words.{RegisterReads, RegisterTurns};
 
+// Its words after the six kept settings: the bucket up to which it is swept, that in milliseconds, whether there is a floor,
+// the floor, and whether it is pending.
+pub const SWEPT: usize = 6;
+
+pub const PUBLISHED: usize = 7;
+
+pub const HAS_FLOOR: usize = 8;
+
+pub const FLOOR: usize = 9;
+
+pub const PENDING: usize = 10;
+
 // Whether the register waits for the host's number.
 pub fn is_pending(part: &[u64]) -> bool
     requires { ⌜ 24 ≤ length (now part) ⌝ }
     ensures { λ r. ⌜ ((u : Settings) → RegisterReads u (λ reg. reg .pending) (now (part .entry)) r) ⌝ }
 {
-    part[10] == 1
+    part[PENDING] == 1
 }
 
 // The newest stamp that it may have forgotten, if any.
@@ -26,8 +38,8 @@ pub fn floor(part: &[u64]) -> Answer
     requires { ⌜ 24 ≤ length (now part) ⌝ }
     ensures { λ r. ⌜ ((u : Settings) → RegisterReads u (λ reg. floor-answer (reg .floor)) (now (part .entry)) r) ⌝ }
 {
-    if part[8] == 1 {
-        return Answer::FloorAt(part[9]);
+    if part[HAS_FLOOR] == 1 {
+        return Answer::FloorAt(part[FLOOR]);
     }
     Answer::NoFloor
 }
@@ -37,7 +49,7 @@ pub fn swept(part: &[u64]) -> Answer
     requires { ⌜ 24 ≤ length (now part) ⌝ }
     ensures { λ r. ⌜ ((u : Settings) → RegisterReads u (swept-answer u) (now (part .entry)) r) ⌝ }
 {
-    Answer::SweptTo(part[6], part[7])
+    Answer::SweptTo(part[SWEPT], part[PUBLISHED])
 }
 
 // The sweep that it publishes to the share book, in milliseconds.
@@ -45,7 +57,7 @@ pub fn published_sweep(part: &[u64]) -> Judged
     requires { ⌜ 24 ≤ length (now part) ⌝ }
     ensures { λ r. ⌜ ((u : Settings) → RegisterReads u (λ reg. published u (reg .swept)) (now (part .entry)) (r .0)) ⌝ }
 {
-    Judged(part[7])
+    Judged(part[PUBLISHED])
 }
 
 // Raises the floor: it never falls, and one that is absent becomes the stamp.
@@ -53,11 +65,11 @@ pub fn raise_floor(part: &mut [u64], stamp: u64)
     requires { ⌜ 24 ≤ length (now part) ⌝ }
     ensures { λ r. ⌜ ((u : Settings) → RegisterTurns u (raised stamp) silent (now (part .entry)) (now (part .exit)) (tt {0})) ⌝ }
 {
-    if (part[8] == 1) & (stamp <= part[9]) {
+    if (part[HAS_FLOOR] == 1) & (stamp <= part[FLOOR]) {
         return;
     }
-    part[8] = 1;
-    part[9] = stamp;
+    part[HAS_FLOOR] = 1;
+    part[FLOOR] = stamp;
 }
 
 // The same by what a drop forgot.
@@ -77,8 +89,8 @@ pub fn set_swept(part: &mut [u64], u: Usable, swept: Bucket)
     ensures { λ r. ⌜ RegisterTurns u (swept-to (swept .0)) silent (now (part .entry)) (now (part .exit)) (tt {0}) ⌝ }
 {
     let published = spans::published(u, swept);
-    part[6] = swept.0;
-    part[7] = published.0;
+    part[SWEPT] = swept.0;
+    part[PUBLISHED] = published.0;
 }
 
 // Begins: a pending register's floor is raised to the host's number, and it is pending no longer.
@@ -86,10 +98,10 @@ pub fn begin(part: &mut [u64], number: u64) -> Answer
     requires { ⌜ 24 ≤ length (now part) ⌝ }
     ensures { λ r. ⌜ ((u : Settings) → RegisterTurns u (begun number) begin-says (now (part .entry)) (now (part .exit)) r) ⌝ }
 {
-    if part[10] != 1 {
+    if part[PENDING] != 1 {
         return Answer::Already;
     }
     raise_floor(part, number);
-    part[10] = 0;
+    part[PENDING] = 0;
     Answer::Begun
 }

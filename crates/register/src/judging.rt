@@ -1,5 +1,7 @@
 // Judge: what a ticket is, with nothing remembered.
 use crate::heading;
+use crate::heading::FLOOR;
+use crate::heading::HAS_FLOOR;
 use crate::rings;
 use crate::sweeping;
 use model::Deliverer;
@@ -32,7 +34,7 @@ fn is_under(part: &[u64], stamp: u64) -> bool
     requires { ⌜ 24 ≤ length (now part) ⌝ }
     ensures { λ r. ⌜ ((u : Settings) → RegisterReads u (λ reg. under stamp (reg .floor)) (now (part .entry)) r) ⌝ }
 {
-    (part[8] == 1) & (stamp <= part[9])
+    (part[HAS_FLOOR] == 1) & (stamp <= part[FLOOR])
 }
 
 // Duplicate first, however old: a ticket that is held is never Late.

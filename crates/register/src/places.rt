@@ -1,12 +1,19 @@
 // Where a class's ring lies in its register's words.
+use generation::Generation;
 use model::Class;
 use model::Usable;
+use numbers::codes;
 use numbers::spans;
-use numbers::starts;
 ghost use mathlib.Core.Path.{_≡_};
 ghost use mathlib.Core.Bool.{true};
 ghost use Rattle.model.specs.Settings.{usable-fit};
-ghost use Rattle.register.specs.Words.{RingAt};
+ghost use Rattle.register.specs.Words.{RingsOf, RingAt};
+
+// The sizes of a register's rings: the positions of each, and its words.
+pub struct Rings {
+    pub ring: usize,
+    pub width: usize,
+}
 
 // The words of a class's ring: from `start` up to `end`, for `ring` positions of at most `slots` slots.
 pub struct Place {
@@ -16,17 +23,37 @@ pub struct Place {
     pub end: usize,
 }
 
+// Whoever looks at more than one class reckons the sizes once, since the positions take a division.
+pub fn rings_of(u: Usable) -> Rings
+    requires { ⌜ usable-fit u ≡ true ⌝ }
+    ensures { λ r. ⌜ RingsOf u r ⌝ }
+{
+    let ring = spans::ring_of(u) as usize;
+    Rings {
+        ring: ring,
+        width: ring * ((u.slots as usize) + Generation::HEAD),
+    }
+}
+
+// Where a class's ring lies, among rings of these sizes.
+pub fn place_in(u: Usable, rings: Rings, class: Class) -> Place
+    requires { ⌜ RingsOf u rings ⌝ }
+    ensures { λ r. ⌜ RingAt u class r ⌝ }
+{
+    let number = codes::class_number(class) as usize;
+    let start = 24 + number * rings.width;
+    Place {
+        slots: u.slots as usize,
+        ring: rings.ring,
+        start: start,
+        end: start + rings.width,
+    }
+}
+
+// Where a class's ring lies.
 pub fn ring_at(u: Usable, class: Class) -> Place
     requires { ⌜ usable-fit u ≡ true ⌝ }
     ensures { λ r. ⌜ RingAt u class r ⌝ }
 {
-    let ring = spans::ring_of(u) as usize;
-    let start = starts::ring_start(u, class);
-    let width = starts::ring_width(u);
-    Place {
-        slots: u.slots as usize,
-        ring: ring,
-        start: start,
-        end: start + width,
-    }
+    place_in(u, rings_of(u), class)
 }

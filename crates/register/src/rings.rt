@@ -1,6 +1,7 @@
 // A register's three rings, each in its place.
 use crate::heading;
 use crate::places;
+use crate::places::Rings;
 use model::Bucket;
 use model::Class;
 use model::Room;
@@ -12,19 +13,27 @@ ghost use Rattle.model.specs.Class.{pick};
 ghost use Rattle.model.specs.Generation.{as-read as read-as};
 ghost use Rattle.model.specs.Register.{holds, holds-any, any-class, strike as struck};
 ghost use Rattle.model.specs.Judge.{make-room};
-ghost use Rattle.ring.specs.Ring.{found-at};
+ghost use Rattle.ring.specs.Ring.{PositionOf, found-at};
 ghost use Rattle.register.specs.Rules.{swept-class, silent};
-ghost use Rattle.register.specs.Words.{RegisterWords, RegisterReads, RegisterTurns};
+ghost use Rattle.register.specs.Words.{RegisterWords, RegisterReads, RegisterTurns, RingsOf};
 
-// Whether a class's ring holds a fingerprint in a bucket.
-fn holds_in(part: &[u64], u: Usable, class: Class, bucket: Bucket, fp: u64) -> bool
-    requires { ⌜ (0 < fp) × RegisterWords u (now part) ⌝ }
+// Whether a class's ring holds a fingerprint in a bucket, whose position is `position`.
+fn holds_in(
+    part: &[u64],
+    u: Usable,
+    rings: Rings,
+    class: Class,
+    position: usize,
+    bucket: Bucket,
+    fp: u64,
+) -> bool
+    requires { ⌜ ((0 < fp) × RegisterWords u (now part)) × (RingsOf u rings × PositionOf (bucket .0) (rings .ring) position) ⌝ }
     ensures { λ r. ⌜ RegisterReads u (λ reg. holds (bucket .0) fp (pick class (reg .rings))) (now (part .entry)) r ⌝ }
 {
-    let at = places::ring_at(u, class);
+    let at = places::place_in(u, rings, class);
     let a = at.start;
     let e = at.end;
-    ring::contains(&part[a..e], at.slots, at.ring, bucket, fp)
+    ring::contains_at(&part[a..e], at.slots, at.ring, position, bucket, fp)
 }
 
 // Whether any class's ring does.
@@ -32,18 +41,20 @@ pub fn holds_any_class(part: &[u64], u: Usable, bucket: Bucket, fp: u64) -> bool
     requires { ⌜ (0 < fp) × RegisterWords u (now part) ⌝ }
     ensures { λ r. ⌜ RegisterReads u (λ reg. any-class (holds (bucket .0) fp) (reg .rings)) (now (part .entry)) r ⌝ }
 {
-    let feeders = holds_in(part, u, Class::Feeders, bucket, fp);
-    let peers = holds_in(part, u, Class::Peers, bucket, fp);
-    let own = holds_in(part, u, Class::Own, bucket, fp);
+    let rings = places::rings_of(u);
+    let at = ring::position(bucket, rings.ring);
+    let feeders = holds_in(part, u, rings, Class::Feeders, at, bucket, fp);
+    let peers = holds_in(part, u, rings, Class::Peers, at, bucket, fp);
+    let own = holds_in(part, u, rings, Class::Own, at, bucket, fp);
     feeders | (peers | own)
 }
 
 // Whether a class's ring holds a fingerprint in any bucket.
-fn holds_hash(part: &[u64], u: Usable, class: Class, fp: u64) -> bool
-    requires { ⌜ (0 < fp) × RegisterWords u (now part) ⌝ }
+fn holds_hash(part: &[u64], u: Usable, rings: Rings, class: Class, fp: u64) -> bool
+    requires { ⌜ ((0 < fp) × RegisterWords u (now part)) × RingsOf u rings ⌝ }
     ensures { λ r. ⌜ RegisterReads u (λ reg. holds-any fp (pick class (reg .rings))) (now (part .entry)) r ⌝ }
 {
-    let at = places::ring_at(u, class);
+    let at = places::place_in(u, rings, class);
     let a = at.start;
     let e = at.end;
     ring::contains_any(&part[a..e], at.slots, at.ring, fp)
@@ -55,9 +66,10 @@ pub fn contains_hash(part: &[u64], u: Usable, fp: u64) -> bool
     ensures { λ r. ⌜ RegisterReads u (λ reg. any-class (holds-any (read-as fp)) (reg .rings)) (now (part .entry)) r ⌝ }
 {
     let print = spans::as_read(fp);
-    let feeders = holds_hash(part, u, Class::Feeders, print);
-    let peers = holds_hash(part, u, Class::Peers, print);
-    let own = holds_hash(part, u, Class::Own, print);
+    let rings = places::rings_of(u);
+    let feeders = holds_hash(part, u, rings, Class::Feeders, print);
+    let peers = holds_hash(part, u, rings, Class::Peers, print);
+    let own = holds_hash(part, u, rings, Class::Own, print);
     feeders | (peers | own)
 }
 
@@ -100,11 +112,18 @@ pub fn strike(
 }
 
 // A class's ring is swept, and the newest that went raises the floor.
-pub fn sweep_class(part: &mut [u64], u: Usable, class: Class, from: Bucket, through: Bucket)
-    requires { ⌜ RegisterWords u (now part) ⌝ }
+pub fn sweep_class(
+    part: &mut [u64],
+    u: Usable,
+    rings: Rings,
+    class: Class,
+    from: Bucket,
+    through: Bucket,
+)
+    requires { ⌜ RegisterWords u (now part) × RingsOf u rings ⌝ }
     ensures { λ _. ⌜ RegisterWords u (now (part .exit)) × RegisterTurns u (swept-class class (from .0) (through .0)) silent (now (part .entry)) (now (part .exit)) (tt {0}) ⌝ }
 {
-    let at = places::ring_at(u, class);
+    let at = places::place_in(u, rings, class);
     let a = at.start;
     let e = at.end;
     let went = ring::sweep(&mut part[a..e], at.slots, at.ring, from, through);

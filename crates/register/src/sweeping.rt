@@ -1,5 +1,8 @@
 // Sweep: every generation that the clock has passed is dropped, and the newest stamp that went raises the floor.
 use crate::heading;
+use crate::heading::SWEPT;
+use crate::places;
+use crate::places::Rings;
 use crate::rings;
 use model::Bucket;
 use model::Class;
@@ -10,7 +13,7 @@ ghost use mathlib.Core.Path.{_≡_};
 ghost use Prim.Native.Nat.{_-_, _<_, max};
 ghost use Rattle.model.specs.Register.{sweep-rings as swept-rings, sweep as swept-by};
 ghost use Rattle.register.specs.Rules.{silent};
-ghost use Rattle.register.specs.Words.{RegisterWords, RegisterTurns};
+ghost use Rattle.register.specs.Words.{RegisterWords, RegisterTurns, RingsOf};
 
 // The bucket that a sweep starts from: the one swept last, or a whole ring back where the clock has moved further than that.
 fn sweep_from(swept: Bucket, through: Bucket, ring: u64) -> Bucket
@@ -24,13 +27,13 @@ fn sweep_from(swept: Bucket, through: Bucket, ring: u64) -> Bucket
 }
 
 // The three rings are swept, and the register is swept up to a bucket.
-fn sweep_rings(part: &mut [u64], u: Usable, from: Bucket, through: Bucket)
-    requires { ⌜ RegisterWords u (now part) ⌝ }
+fn sweep_rings(part: &mut [u64], u: Usable, sizes: Rings, from: Bucket, through: Bucket)
+    requires { ⌜ RegisterWords u (now part) × RingsOf u sizes ⌝ }
     ensures { λ _. ⌜ RegisterTurns u (swept-rings (from .0) (through .0)) silent (now (part .entry)) (now (part .exit)) (tt {0}) ⌝ }
 {
-    rings::sweep_class(part, u, Class::Feeders, from, through);
-    rings::sweep_class(part, u, Class::Peers, from, through);
-    rings::sweep_class(part, u, Class::Own, from, through);
+    rings::sweep_class(part, u, sizes, Class::Feeders, from, through);
+    rings::sweep_class(part, u, sizes, Class::Peers, from, through);
+    rings::sweep_class(part, u, sizes, Class::Own, from, through);
     heading::set_swept(part, u, through);
 }
 
@@ -44,11 +47,16 @@ pub fn sweep(part: &mut [u64], u: Usable, reading: Judged)
         return;
     }
     let through = spans::through_of(u, reading);
-    let swept = Bucket(part[6]);
+    let swept = Bucket(part[SWEPT]);
+    // Swept up to there already, and that is published.
+    if through.0 == swept.0 {
+        return;
+    }
     if through.0 <= swept.0 {
         heading::set_swept(part, u, through);
         return;
     }
-    let from = sweep_from(swept, through, spans::ring_of(u));
-    sweep_rings(part, u, from, through);
+    let sizes = places::rings_of(u);
+    let from = sweep_from(swept, through, sizes.ring as u64);
+    sweep_rings(part, u, sizes, from, through);
 }

@@ -3,7 +3,7 @@ use Prim.Native.Nat.{ℕ, _-_, _<_, _≤_}
 use mathlib.Core.Path.{_≡_, refl, sym, ap, subst, _∙_}
 use mathlib.Core.Bool.{Bool, true, false}
 use mathlib.Core.List.{List, [], _∷_}
-use mathlib.Core.Option.{Option, none}
+use mathlib.Core.Option.{none}
 use types.Run.{OneOf}
 use denote.Enum.Declared.{tagOf}
 use borrow.Rule.Slice.PartMut.{midOf, putMid}
@@ -17,13 +17,12 @@ use Rattle.model.specs.declared.Usable.{Usable}
 use Rattle.model.specs.Settings.{usable-at}
 use Rattle.model.specs.Class.{pick}
 use Rattle.model.specs.Generation.{as-read}
-use Rattle.model.specs.Register.{Ring, Register, with-floor, strike}
+use Rattle.model.specs.Register.{Register, strike}
 use Rattle.model.specs.Judge.{make-room}
-use Rattle.model.specs.Dump.{drop-bucket, raised-to-dumped}
-use Rattle.model.proofs.Choice.{swap-cases}
+use Rattle.model.specs.Dump.{failed, raised-to-dumped}
 use Rattle.model.proofs.Bounds.{fit-usable, slots-small}
 use Rattle.model.proofs.Judging.{read-positive}
-use Rattle.model.proofs.RingsKept.{RegisterOk, RingOk, strike-ok, drop-ok}
+use Rattle.model.proofs.RingsKept.{RegisterOk, strike-ok, failed-ok, floor-ok}
 use Rattle.numbers.specs.declared.starts.Place.{Place}
 use Rattle.numbers.specs.Places.{RegisterAt}
 use Rattle.register.specs.Rules.{failed-at, floor-gone, raised}
@@ -79,20 +78,13 @@ module _ (u : Usable) (h : Head) (fp : ℕ) where
   held-fine small reg Collides e ok = ok
   held-fine small reg NoSlots e ok = ok
 
-floor-fine : (u : Usable) (f : Option ℕ) (reg : Register) → RegisterOk u reg → RegisterOk u (with-floor f reg)
-floor-fine u f reg ok = record { spare = ok .spare; rings = ok .rings }
-
 failed-fine : (u : Usable) (c : Class) (b newest : ℕ) (reg : Register) → RegisterOk u reg → RegisterOk u (failed-at c b newest reg)
-failed-fine u c b newest reg ok =
-    let ring = pick c (reg .rings) in
-    record {
-      spare = ok .spare;
-      rings = λ x. swap-cases (λ (y : Ring). RingOk u y) c x (drop-bucket b ring) (reg .rings) (λ e. drop-ok u b ring (ok .rings c)) (ok .rings x);
-    }
+unfolding failed
+failed-fine u c b newest reg ok = failed-ok u c (record { bucket = b; newest = newest; prints = [] }) reg ok
 
 dumped-fine : (u : Usable) (n : ℕ) (reg : Register) → RegisterOk u reg → RegisterOk u (raised-to-dumped n reg)
 unfolding raised-to-dumped
-dumped-fine u n reg ok = floor-fine u _ reg ok
+dumped-fine u n reg ok = floor-ok u _ reg ok
 
 -- ---- in the run
 module _ (s : Settings) (r : ℕ) (q : r < s .registers) (p : Place) (l : RegisterAt s r p) (ws last : List ℕ) (w : RunWords s ws) where
@@ -127,11 +119,11 @@ module _ (s : Settings) (r : ℕ) (q : r < s .registers) (p : Place) (l : Regist
   pub forget-acts : ((u : Usable) → RegisterTurns u floor-gone silent-register part last (tt {0}))
       → RunWords s after × Acts s r (λ reg k. floor-gone reg) (λ reg k. k) silent ws after (tt {0})
   forget-acts t =
-      let a = register-acts s r q p l ws floor-gone silent-register last (tt {0}) (λ reg ok. floor-fine (usable-at s r) none reg ok) (t (p .u)) in
+      let a = register-acts s r q p l ws floor-gone silent-register last (tt {0}) (λ reg ok. floor-ok (usable-at s r) none reg ok) (t (p .u)) in
       (acts-words s r q ws after w a, a)
 
   pub raise-acts : (n : ℕ) → ((u : Usable) → RegisterTurns u (raised n) silent-register part last (tt {0}))
       → RunWords s after × Acts s r (λ reg k. raised n reg) (λ reg k. k) silent ws after (tt {0})
   raise-acts n t =
-      let a = register-acts s r q p l ws (raised n) silent-register last (tt {0}) (λ reg ok. floor-fine (usable-at s r) _ reg ok) (t (p .u)) in
+      let a = register-acts s r q p l ws (raised n) silent-register last (tt {0}) (λ reg ok. floor-ok (usable-at s r) _ reg ok) (t (p .u)) in
       (acts-words s r q ws after w a, a)

@@ -3,19 +3,29 @@ use crate::heads::Head;
 use crate::heads::Tally;
 use crate::leaves;
 use model::Settings;
+use numbers::starts::Place;
 ghost use mathlib.Core.Path.{_≡_};
 ghost use Prim.Native.Nat.{_<_, _≤_, _+_, _/_};
 ghost use lib.ListN.{length};
 ghost use Rattle.model.specs.declared.Deliverer.the-variants.{Restored};
 ghost use Rattle.model.specs.Dump.{words-of, undrawn-all};
 ghost use Rattle.dump.specs.Walk.{dumped-at, length-at, next-at};
+ghost use Rattle.numbers.specs.Places.{RegisterAt};
 ghost use Rattle.taking.specs.Words.{RunWords};
 ghost use Rattle.restoring.specs.Rules.{Suits, silent, HoldActs, RestoreActs, AllOnes, one-held, all-held, generation-restored};
 ghost use Rattle.restoring.specs.Words.{Acts};
 
 // One fingerprint: drawn first, and then struck where there is room.
-fn hold_one(run: &mut [u64], s: Settings, r: usize, h: Head, fp: u64, draws: usize) -> Tally
-    requires { ⌜ ((RunWords s (now run) × (r < s .registers)) × Suits s r h) × (draws < 18_446_744_073_709_551_615) ⌝ }
+fn hold_one(
+    run: &mut [u64],
+    s: Settings,
+    r: usize,
+    place: Place,
+    h: Head,
+    fp: u64,
+    draws: usize,
+) -> Tally
+    requires { ⌜ ((RunWords s (now run) × RegisterAt s r place) × Suits s r h) × (draws < 18_446_744_073_709_551_615) ⌝ }
     ensures { λ v. ⌜ RunWords s (now (run .exit)) × (AllOnes s r h fp draws (now (run .entry)) (now (run .exit)) v × (v .draws ≤ draws + 1)) ⌝ }
 {
     if !leaves::draw(run, s, r, h) {
@@ -24,7 +34,7 @@ fn hold_one(run: &mut [u64], s: Settings, r: usize, h: Head, fp: u64, draws: usi
             fits: false,
         };
     }
-    let fits = leaves::hold(run, s, r, h, fp);
+    let fits = leaves::hold(run, s, r, place, h, fp);
     Tally {
         draws: draws + 1,
         fits: fits,
@@ -36,19 +46,20 @@ fn hold_all(
     run: &mut [u64],
     s: Settings,
     r: usize,
+    place: Place,
     h: Head,
     bytes: &[u8],
     at: usize,
     long: usize,
 ) -> Tally
-    requires { ⌜ ((RunWords s (now run) × (r < s .registers)) × Suits s r h) × ((long ≡ length-at (words-of (now bytes)) at) × (next-at (words-of (now bytes)) at ≤ length (now bytes) / 8)) ⌝ }
+    requires { ⌜ ((RunWords s (now run) × RegisterAt s r place) × Suits s r h) × ((long ≡ length-at (words-of (now bytes)) at) × (next-at (words-of (now bytes)) at ≤ length (now bytes) / 8)) ⌝ }
     ensures { λ v. ⌜ RunWords s (now (run .exit)) × HoldActs s r (all-held s r h (dumped-at (words-of (now (bytes .entry))) at .prints)) (now (run .entry)) (now (run .exit)) v ⌝ }
 {
     let mut draws = 0;
     let mut k = 0;
     while k < long {
         let fp = dump::print_at(bytes, at, k);
-        let one = hold_one(run, s, r, h, fp, draws);
+        let one = hold_one(run, s, r, place, h, fp, draws);
         if !one.fits {
             return one;
         }
@@ -78,19 +89,20 @@ pub fn restore_generation(
     run: &mut [u64],
     s: Settings,
     r: usize,
+    place: Place,
     h: Head,
     bytes: &[u8],
     at: usize,
     long: usize,
 ) -> bool
-    requires { ⌜ ((RunWords s (now run) × (r < s .registers)) × Suits s r h) × ((long ≡ length-at (words-of (now bytes)) at) × (next-at (words-of (now bytes)) at ≤ length (now bytes) / 8)) ⌝ }
+    requires { ⌜ ((RunWords s (now run) × RegisterAt s r place) × Suits s r h) × ((long ≡ length-at (words-of (now bytes)) at) × (next-at (words-of (now bytes)) at ≤ length (now bytes) / 8)) ⌝ }
     ensures { λ v. ⌜ RunWords s (now (run .exit)) × RestoreActs s r (generation-restored s r h (dumped-at (words-of (now (bytes .entry))) at .prints)) (now (run .entry)) (now (run .exit)) v ⌝ }
 {
-    let tally = hold_all(run, s, r, h, bytes, at, long);
+    let tally = hold_all(run, s, r, place, h, bytes, at, long);
     if tally.fits {
         return true;
     }
     give_back_all(run, s, r, h, tally.draws);
-    leaves::fail(run, s, r, h);
+    leaves::fail(run, s, r, place, h);
     false
 }

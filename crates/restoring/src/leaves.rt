@@ -1,4 +1,5 @@
-// What a restore asks of one register, and of one class of the share book, in the whole run.
+// What a restore asks of one register, and of one class of the share book, in the whole run. Where the register lies is reckoned
+// once for a restore and handed on as its `place`.
 use crate::heads::Head;
 use book::decide;
 use book::front;
@@ -8,6 +9,7 @@ use model::Settings;
 use model::Usable;
 use numbers::spans;
 use numbers::starts;
+use numbers::starts::Place;
 ghost use mathlib.Core.Bool.{true};
 ghost use mathlib.Core.Option.{none};
 ghost use Prim.Native.Nat.{_<_, _≤_, _+_};
@@ -18,6 +20,7 @@ ghost use Rattle.model.specs.declared.Deliverer.the-variants.{Restored};
 ghost use Rattle.model.specs.Book.{undrawn};
 ghost use Rattle.model.specs.Register.{with-floor};
 ghost use Rattle.model.specs.Dump.{raised-to-dumped};
+ghost use Rattle.numbers.specs.Places.{RegisterAt};
 ghost use Rattle.register.specs.Rules.{failed-at, floor-gone, raised};
 ghost use Rattle.register.specs.Words.{RegisterWords, RegisterTurns};
 ghost use Rattle.taking.specs.Words.{RunWords};
@@ -40,59 +43,54 @@ fn hold_in(part: &mut [u64], u: Usable, h: Head, fp: u64) -> bool
 }
 
 // The same in the run.
-pub fn hold(run: &mut [u64], s: Settings, r: usize, h: Head, fp: u64) -> bool
-    requires { ⌜ RunWords s (now run) × (r < s .registers) ⌝ }
+pub fn hold(run: &mut [u64], s: Settings, r: usize, place: Place, h: Head, fp: u64) -> bool
+    requires { ⌜ RunWords s (now run) × RegisterAt s r place ⌝ }
     ensures { λ v. ⌜ RunWords s (now (run .exit)) × Acts s r (λ reg k. held-in (usable-at s r) h fp reg) (λ reg k. k) (λ reg k. fits-in (room-in (usable-at s r) h fp reg)) (now (run .entry)) (now (run .exit)) v ⌝ }
 {
-    let at = starts::place_of(s, r);
-    let a = at.start;
-    let e = at.end;
-    hold_in(&mut run[a..e], at.u, h, fp)
+    let a = place.start;
+    let e = place.end;
+    hold_in(&mut run[a..e], place.u, h, fp)
 }
 
 // A generation failed: it is forgotten, and the floor rises to its newest stamp.
-pub fn fail(run: &mut [u64], s: Settings, r: usize, h: Head)
-    requires { ⌜ RunWords s (now run) × (r < s .registers) ⌝ }
+pub fn fail(run: &mut [u64], s: Settings, r: usize, place: Place, h: Head)
+    requires { ⌜ RunWords s (now run) × RegisterAt s r place ⌝ }
     ensures { λ _. ⌜ RunWords s (now (run .exit)) × Acts s r (λ reg k. failed-at (h .class) (h .bucket .0) (h .newest) reg) (λ reg k. k) silent (now (run .entry)) (now (run .exit)) (tt {0}) ⌝ }
 {
-    let at = starts::place_of(s, r);
-    let a = at.start;
-    let e = at.end;
+    let a = place.start;
+    let e = place.end;
     let class = h.class;
     let bucket = h.bucket;
-    register::fail(&mut run[a..e], at.u, class, bucket, h.newest);
+    register::fail(&mut run[a..e], place.u, class, bucket, h.newest);
 }
 
 // The floor is raised to a dump's.
-pub fn raise_to_dumped(run: &mut [u64], s: Settings, r: usize, floor: u64)
-    requires { ⌜ RunWords s (now run) × (r < s .registers) ⌝ }
+pub fn raise_to_dumped(run: &mut [u64], s: Settings, r: usize, place: Place, floor: u64)
+    requires { ⌜ RunWords s (now run) × RegisterAt s r place ⌝ }
     ensures { λ _. ⌜ RunWords s (now (run .exit)) × Acts s r (λ reg k. raised-to-dumped floor reg) (λ reg k. k) silent (now (run .entry)) (now (run .exit)) (tt {0}) ⌝ }
 {
-    let at = starts::place_of(s, r);
-    let a = at.start;
-    let e = at.end;
+    let a = place.start;
+    let e = place.end;
     register::raise_to_dumped(&mut run[a..e], floor);
 }
 
 // The floor is forgotten.
-pub fn forget_floor(run: &mut [u64], s: Settings, r: usize)
-    requires { ⌜ RunWords s (now run) × (r < s .registers) ⌝ }
+pub fn forget_floor(run: &mut [u64], s: Settings, r: usize, place: Place)
+    requires { ⌜ RunWords s (now run) × RegisterAt s r place ⌝ }
     ensures { λ _. ⌜ RunWords s (now (run .exit)) × Acts s r (λ reg k. floor-gone reg) (λ reg k. k) silent (now (run .entry)) (now (run .exit)) (tt {0}) ⌝ }
 {
-    let at = starts::place_of(s, r);
-    let a = at.start;
-    let e = at.end;
+    let a = place.start;
+    let e = place.end;
     register::forget_floor(&mut run[a..e]);
 }
 
 // The floor is raised to a stamp.
-pub fn raise_floor(run: &mut [u64], s: Settings, r: usize, stamp: u64)
-    requires { ⌜ RunWords s (now run) × (r < s .registers) ⌝ }
+pub fn raise_floor(run: &mut [u64], s: Settings, r: usize, place: Place, stamp: u64)
+    requires { ⌜ RunWords s (now run) × RegisterAt s r place ⌝ }
     ensures { λ _. ⌜ RunWords s (now (run .exit)) × Acts s r (λ reg k. raised stamp reg) (λ reg k. k) silent (now (run .entry)) (now (run .exit)) (tt {0}) ⌝ }
 {
-    let at = starts::place_of(s, r);
-    let a = at.start;
-    let e = at.end;
+    let a = place.start;
+    let e = place.end;
     register::raise_floor(&mut run[a..e], stamp);
 }
 

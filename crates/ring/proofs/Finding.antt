@@ -1,9 +1,9 @@
 -- Fingerprints looked for in a ring, and the room that it has for one.
-use Prim.Native.Nat.{ℕ, _+_, _-_, _%_, _<_, _≤_}
+use Prim.Native.Nat.{ℕ, _+_, _%_, _<_, _≤_}
 use native.Mathlib.Omega.{arith}
 use native.Mathlib.Numerals.{add-one}
 use mathlib.Core.Path.{_≡_, refl, sym, _∙_}
-use mathlib.Core.Bool.{Bool, true, false, _||_}
+use mathlib.Core.Bool.{Bool, false, _||_, or-assoc, or-false}
 use mathlib.Core.List.{List}
 use lib.ListN.{getD, drop, drop-of-length-le}
 use lib.Seq.{drop-cons}
@@ -22,14 +22,6 @@ unfolding holds
 holds-reads S n b fp t = t
 
 -- ---- in any: the loop is at position i, and `any` is the answer for those before it
-or-assoc : (a b c : Bool) → (a || b || c) ≡ (a || (b || c))
-or-assoc true b c = refl
-or-assoc false b c = refl
-
-or-false : (a : Bool) → (a || false) ≡ a
-or-false true = refl
-or-false false = refl
-
 pub record Looked (S n fp : ℕ) (ws : List ℕ) (i : ℕ) (any : Bool) : Type 0 where
   pub within : i ≤ n
   pub left : (ring : Ring) → places S n .Ok ring → ws ≡ places S n .enc ring → (any || holds-any fp (drop i ring)) ≡ holds-any fp ring

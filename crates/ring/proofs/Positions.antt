@@ -1,23 +1,22 @@
 -- The position of a bucket in a ring's words: what is seen there is seen of the ring, and what is put there is put into it.
 use Prim.Native.Nat.{ℕ, _+_, _-_, _*_, _%_, _<_}
-use native.Mathlib.Nat.{mod-lt, mul-le-mul-right, suc-mul}
-use native.Mathlib.Omega.{arith}
 use mathlib.Core.Path.{_≡_, refl, ap, _∙_}
 use mathlib.Core.Bool.{true}
 use mathlib.Core.List.{List}
-use lib.ListN.{length, getD, set, length-set}
+use lib.ListN.{length, getD, set}
 use borrow.Rule.Slice.PartMut.{midOf, putMid}
 use Rattle.runs.specs.Form.{Exact}
 use Rattle.runs.specs.Combine.{at-place, testAll}
 use Rattle.runs.specs.Turns.{Reads, Turns}
-use Rattle.runs.proofs.Each.{each-at, each-set}
 use Rattle.runs.proofs.Exact.{many-exact, sound-is}
 use Rattle.runs.proofs.Parts.{Part, place-part}
+use Rattle.runs.proofs.Walk.{inside}
 use Rattle.runs.proofs.Turns.{lies-at, part-reads, part-turns, reads-as, turns-as}
 use Rattle.model.specs.Generation.{Generation, empty}
 use Rattle.model.specs.GenerationWords.{encode-generation, GenerationOk, generation-place}
 use Rattle.model.specs.Register.{Ring, generation-at, with-generation}
 use Rattle.model.proofs.GenerationWords.{generation-exact}
+use Rattle.model.proofs.RingsKept.{Placed}
 use Rattle.generation.specs.Words.{Bounded}
 use Rattle.generation.proofs.Looking.{bounded}
 use Rattle.ring.specs.Ring.{places, RingReads, RingTurns, Sized, RingWords, StartsAt}
@@ -31,7 +30,7 @@ module _ (S n : ℕ) where
   sound-words ws s t = record { sized = s; is = sound-is (places S n) ring-exact ws (s .long) t }
 
   pub starts-at : (i : ℕ) → i < n → StartsAt S n i (i * (S + 4))
-  starts-at i h = record { start = refl; within = omega (arith, mul-le-mul-right (S + 4) h, suc-mul i (S + 4)) }
+  starts-at i h = record { start = refl; within = inside n i (S + 4) h }
 
   -- ---- position i, lent as `&words[a..e]`
   module _ (i : ℕ) (h : i < n) (a e : ℕ) (at : StartsAt S n i a) (he : e ≡ a + (S + 4)) where
@@ -68,13 +67,12 @@ module _ (S n : ℕ) where
           turns-as (part-turns here a e (at .start) he t)
           (λ ring ok is q. (ap (places S n .enc) (rw (p, ok .0)), q ∙ ap out (bucket-is ring ok)))
 
-  -- ---- a ring with another generation at a bucket's position is well formed if that generation is
-  pub with-ok : (ring : Ring) (b : ℕ) (g : Generation) → places S n .Ok ring → GenerationOk S n (b % n) g → places S n .Ok (with-generation ring b g)
-  with-ok ring b g ok fine =
-      (length-set ring (b % length ring) g ∙ ok .0, rw (ok .0) (each-set (GenerationOk S n) ring (b % n) g (ok .1) fine))
+  -- ---- a well-formed ring of these words, as the model's laws have it
+  pub placed : (ring : Ring) → places S n .Ok ring → Placed S n ring
+  placed ring ok = record { long = ok .0; each = ok .1 }
 
-  pub ok-at : (ring : Ring) (b : ℕ) → 0 < n → places S n .Ok ring → GenerationOk S n (b % n) (generation-at ring b)
-  ok-at ring b h ok = rw (ok .0) (each-at (GenerationOk S n) ring (b % n) empty (ok .1) (rw (ok .0) (mod-lt b h)))
+  pub of-placed : (ring : Ring) → Placed S n ring → places S n .Ok ring
+  of-placed ring ok = (ok .long, ok .each)
 
   -- what a function leaves are the words of a ring again
   pub turned : {R : Type 0} {f : Ring → Ring} {out : Ring → R} {ws last : List ℕ} {r : R} → RingTurns S n f out ws last r → (w : RingWords S n ws)

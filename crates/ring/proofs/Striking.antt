@@ -1,48 +1,38 @@
 -- A fingerprint is inserted at the position where room was found; a bucket's generation is dropped.
-use Prim.Native.Nat.{ℕ, _+_, _-_, _%_, _<_, _≤_}
+use Prim.Native.Nat.{ℕ, _+_, _-_, _%_, _<_}
 use native.Mathlib.Nat.{mod-lt}
-use mathlib.Core.Path.{_≡_, ap, _∙_}
+use mathlib.Core.Path.{_≡_, sym, ap, _∙_}
 use mathlib.Core.Bool.{Bool}
 use mathlib.Core.List.{List}
 use lib.ListN.{length, getD}
 use lib.Seq.{set-getD}
-use lib.Dec.{eqb, leb}
-use borrow.Author.Tests.{leb-true}
+use lib.Dec.{eqb}
 use borrow.Rule.Slice.PartMut.{midOf}
-use Rattle.runs.specs.Turns.{Turns}
-use Rattle.runs.proofs.Cases.{by-test, no}
+use Rattle.runs.proofs.Cases.{by-test}
 use Rattle.runs.proofs.Turns.{turns-as}
 use Rattle.model.specs.declared.Room.the-variants.{At}
-use Rattle.model.specs.Generation.{Generation, empty, among, insert, slots-for, dropped}
+use Rattle.model.specs.Generation.{Generation, empty, among}
 use Rattle.model.specs.Register.{Ring, generation-at, with-generation}
-use Rattle.model.specs.Judge.{collides, make-room}
+use Rattle.model.specs.Judge.{make-room}
 use Rattle.model.specs.Dump.{drop-bucket}
-use Rattle.model.proofs.Growth.{insert-ok, dropped-ok}
+use Rattle.model.proofs.RingsKept.{room-at, insert-in-ok, drop-ok}
 use Rattle.generation.specs.Rules.{dropped-in, drop-in-says}
 use Rattle.generation.specs.Words.{Roomy, GenerationReads}
 use Rattle.generation.specs.declared.Dropped.{Dropped}
 use Rattle.generation.proofs.Looking.{roomy}
 use Rattle.ring.specs.Ring.{places, RingReads, RingTurns, RingWords, StartsAt, inserted-in, silent, drop-bucket-says}
-use Rattle.ring.proofs.Positions.{place-is, with-ok, ok-at, turned}
+use Rattle.ring.proofs.Positions.{place-is, placed, of-placed, turned}
 
 -- ---- what the room that was found tells
 module _ (S n b fp at : ℕ) (ws : List ℕ) (w : RingWords S n ws) (room : RingReads S n (make-room S b fp) ws (At at)) where
   abbrev struck : Generation
   struck = generation-at (w .is .value) b
 
-  found : (at ≡ b % n) × (slots-for (among fp (struck .slots)) (struck .slots) ≤ S)
-  unfolding make-room
-  found =
-      let v = w .is in
-      let s = struck .slots in
-      let q = room .says (v .value) (v .ok) (v .words) in
-      by-test (collides b struck) (λ e. no (let z = rw e at q in cc))
-      (λ e. by-test (leb (slots-for (among fp s) s) S)
-      (λ d. let z = rw (e, d) at q in let i : at ≡ b % length (v .value) = cc in (i ∙ rw (v .ok .0), leb-true (slots-for (among fp s) s) S d))
-      (λ d. no (let z = rw (e, d) at q in cc)))
+  said : make-room S b fp (w .is .value) ≡ At at
+  said = let v = w .is in sym (room .says (v .value) (v .ok) (v .words))
 
   pub found-position : at ≡ b % n
-  found-position = found .0
+  found-position = let v = w .is in room-at S b fp at (v .value) said .here ∙ rw (v .ok .0)
 
   pub found-within : at < n
   found-within = rw found-position (mod-lt b (w .sized .some))
@@ -55,14 +45,14 @@ module _ (S n b fp at : ℕ) (ws : List ℕ) (w : RingWords S n ws) (room : Ring
       let g = getD (v .value) at empty in
       let same : g ≡ struck = rw (found-position, v .ok .0) in
       let k : known ≡ among fp (g .slots) = t S n at .says g (p .0) (p .1) in
-      roomy S g known (rw (k, same) (found .1)) (midOf a (e - a) ws) (p .1)
+      roomy S g known (rw (k, same) (room-at S b fp at (v .value) said .fits)) (midOf a (e - a) ws) (p .1)
 
   pub inserted-words : (stamp : ℕ) {last : List ℕ} → RingTurns S n (inserted-in b fp stamp) silent ws last tt → 0 < fp → RingWords S n last
   inserted-words stamp t pos =
       let v = w .is in
       let s = w .sized in
-      let fine = insert-ok S n (b % n) struck (ok-at S n (v .value) b (s .some) (v .ok)) b fp stamp (s .small) pos (found .1) in
-      turned S n t w (with-ok S n (v .value) b (insert b fp stamp struck) (v .ok) fine)
+      turned S n t w
+      (of-placed S n _ (insert-in-ok S n b fp stamp at (v .value) (s .small) (s .some) pos said (placed S n (v .value) (v .ok))))
 
 -- ---- a bucket's generation is dropped
 module _ (S n b : ℕ) where
@@ -78,9 +68,4 @@ module _ (S n b : ℕ) where
   drop-turns t = turns-as t (λ ring ok is q. (ap (places S n .enc) (drop-is ring), q))
 
   pub dropped-words : {ws last : List ℕ} {r : Dropped} → RingTurns S n (drop-bucket b) (drop-bucket-says b) ws last r → RingWords S n ws → RingWords S n last
-  unfolding drop-bucket
-  dropped-words t w =
-      let v = w .is in
-      let g = generation-at (v .value) b in
-      turned S n t w
-      (by-test (eqb (g .bucket) b) (λ e. rw e (with-ok S n (v .value) b (dropped g) (v .ok) (dropped-ok S n (b % n) g))) (λ e. rw e (v .ok)))
+  dropped-words t w = let v = w .is in turned S n t w (of-placed S n _ (drop-ok S n b (v .value) (placed S n (v .value) (v .ok))))

@@ -13,13 +13,13 @@ use Rattle.runs.proofs.Cases.{by-test}
 use Rattle.model.specs.Numbers.{raise}
 use Rattle.model.specs.Generation.{Generation, empty, dropped}
 use Rattle.model.specs.Register.{Ring, generation-at, with-generation, passed, Swept, visit, visits, sweep-ring}
-use Rattle.model.proofs.Growth.{dropped-ok}
+use Rattle.model.proofs.RingsKept.{visit-ok}
 use Rattle.generation.specs.declared.Dropped.{Dropped}
 use Rattle.generation.specs.declared.Dropped.the-variants.{Nothing, Newest}
 use Rattle.generation.specs.Rules.{swept-at, sweep-says, went}
 use Rattle.ring.specs.Ring.{places, RingTurns, RingWords}
 use Rattle.ring.specs.Sweep.{swept-ring, swept-says, newest-of, raised-by}
-use Rattle.ring.proofs.Positions.{with-ok, turned}
+use Rattle.ring.proofs.Positions.{placed, of-placed, turned}
 
 -- ---- of two drops the newest
 pub newest-first : (a b : Dropped) {n : ℕ} → a ≡ Newest n → b ≡ Nothing → Newest n ≡ newest-of a b
@@ -61,10 +61,8 @@ module _ (through b : ℕ) (w : Swept) where
       by-test (passed through there) (λ e. rw (visit-passed e, e) (sym (went-raised (w .floor) (there .newest))))
       (λ e. rw (visit-left e, e) (sym (went-nothing (w .floor))))
 
-  visit-ok : (S n : ℕ) → places S n .Ok (w .ring) → places S n .Ok (visit through b w .ring)
-  visit-ok S n ok =
-      by-test (passed through there) (λ e. rw (visit-passed e) (with-ok S n (w .ring) b (dropped there) ok (dropped-ok S n (b % n) there)))
-      (λ e. rw (visit-left e) ok)
+  visit-fine : (S n : ℕ) → places S n .Ok (w .ring) → places S n .Ok (visit through b w .ring)
+  visit-fine S n ok = of-placed S n _ (visit-ok S n through b w (placed S n (w .ring) ok))
 
 -- ---- the loop: of every ring that the words were at first, it stands on the way of that ring's sweep
 pub record OnWay (S n from through : ℕ) (ring : Ring) (b : ℕ) (words : List ℕ) (so-far : Dropped) : Type 0 where
@@ -97,13 +95,13 @@ module _ (S n from through : ℕ) (ws : List ℕ) where
         let w : Swept = record { floor = none; ring = v .value } in
         let one : through - b ≡ suc (through - suc b) = omega arith in
         record {
-          good = turned S n t (s .good) (rw (visit-ring through b w) (visit-ok through b w S n (v .ok)));
+          good = turned S n t (s .good) (rw (visit-ring through b w) (visit-fine through b w S n (v .ok)));
           way = λ ring ok is.
               let o = s .way ring ok is in
               let d = t .does (o .at .ring) (o .ok) (o .are) in
               record {
                 at = visit through b (o .at);
-                ok = visit-ok through b (o .at) S n (o .ok);
+                ok = visit-fine through b (o .at) S n (o .ok);
                 are = d .0 ∙ ap (places S n .enc) (visit-ring through b (o .at));
                 says = e ∙ rw (o .says, d .1) (visit-floor through b (o .at));
                 left = rw add-one (rw one at (o .left));

@@ -16,7 +16,7 @@ ghost use Rattle.ring.specs.Ring.{Sized, RingWords, RingReads, RingTurns
 ghost use Rattle.ring.specs.Sweep.{swept-ring, swept-says, newest-of};
 
 // The position of a bucket.
-fn position(bucket: Bucket, ring: usize) -> usize
+pub fn position(bucket: Bucket, ring: usize) -> usize
     requires { ⌜ (0 < ring) × (ring ≤ 256) ⌝ }
     ensures { λ r. ⌜ PositionOf (bucket .0) ring r ⌝ }
 {
@@ -31,12 +31,18 @@ fn start_of(i: usize, slots: usize, ring: usize) -> usize
     i * (slots + Generation::HEAD)
 }
 
-// Whether the ring holds a fingerprint in a bucket.
-pub fn contains(words: &[u64], slots: usize, ring: usize, bucket: Bucket, fp: u64) -> bool
-    requires { ⌜ (0 < fp) × RingWords slots ring (now words) ⌝ }
+// Whether the ring holds a fingerprint in a bucket, whose position is `at`.
+pub fn contains_at(
+    words: &[u64],
+    slots: usize,
+    ring: usize,
+    at: usize,
+    bucket: Bucket,
+    fp: u64,
+) -> bool
+    requires { ⌜ ((0 < fp) × RingWords slots ring (now words)) × PositionOf (bucket .0) ring at ⌝ }
     ensures { λ r. ⌜ RingReads slots ring (holds (bucket .0) fp) (now (words .entry)) r ⌝ }
 {
-    let at = position(bucket, ring);
     let a = start_of(at, slots, ring);
     let e = a + (slots + Generation::HEAD);
     generation::contains_in(&words[a..e], bucket, fp)

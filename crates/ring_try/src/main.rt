@@ -61,7 +61,8 @@ fn look(words: &[u64], bucket: Bucket, fp: u64) -> u64
     if !is_ring(words) {
         return 0;
     }
-    let here = ring::contains(words, 4, 3, bucket, fp);
+    let at = ring::position(bucket, 3);
+    let here = ring::contains_at(words, 4, 3, at, bucket, fp);
     let any = ring::contains_any(words, 4, 3, fp);
     if here {
         return 3;

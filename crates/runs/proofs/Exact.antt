@@ -4,13 +4,12 @@ use native.Mathlib.Nat.{zero-mul, suc-mul}
 use native.Mathlib.Omega.{arith}
 use mathlib.Core.Path.{_≡_, refl, ap, ap₂, sym, subst, _∙_}
 use mathlib.Core.Bool.{Bool, true}
-use mathlib.Core.Option.{some}
 use mathlib.Core.List.{List, [], _∷_, _++_}
 use lib.ListN.{length, take, drop, replicate, length-append, length-drop, length-replicate, take-append-drop, replicate-append-replicate}
 use lib.Seq.{take-at, drop-at, length-take-le}
 use Rattle.runs.specs.Words.{sameWords}
 use Rattle.runs.specs.Chunks.{flat}
-use Rattle.runs.specs.Form.{Form, Exact, view}
+use Rattle.runs.specs.Form.{Form, Exact}
 use Rattle.runs.specs.Combine.{free, both, EachOk, wideRow, encRow, readRow, testRow, row, Place, at-place, many}
 use Rattle.runs.specs.Combine.{encUp, readUp, testUp, upTo, Marks, such, led, seen-as}
 use Rattle.runs.specs.Turns.{Is}
@@ -100,7 +99,7 @@ module _ {A : Type 0} (P : Place A) where
 
 -- ---- at most n, zeros after them
 module _ {A : Type 0} (F : Form A) where
-  up-none : (n : ℕ) → encUp F n [] ≡ replicate (n * F .wide) 0
+  pub up-none : (n : ℕ) → encUp F n [] ≡ replicate (n * F .wide) 0
   unfolding encUp
   up-none zero = rw zero-mul
   up-none (suc n) =
@@ -201,19 +200,9 @@ module _ {A : Type 0} (F : Form A) (f : Exact F) where
   pub sound-is : (ws : List ℕ) → length ws ≡ F .wide → F .test ws ≡ true → Is (F .enc) (F .Ok) ws
   sound-is ws long t = let b = f .back ws long t in record { value = F .read ws; ok = b .0; words = b .1 }
 
-  -- and of one only
-  pub one-value : (x y : A) → F .Ok x → F .Ok y → F .enc x ≡ F .enc y → x ≡ y
-  one-value x y p q e = sym (f .forth x p .1) ∙ ap (F .read) e ∙ f .forth y q .1
-
   -- the same of words that may be longer
   pub view-back : (ws : List ℕ) → F .wide ≤ length ws → F .test (take (F .wide) ws) ≡ true
       → F .Ok (F .read (take (F .wide) ws)) × (ws ≡ F .enc (F .read (take (F .wide) ws)) ++ drop (F .wide) ws)
   view-back ws h t =
       let a = f .back (take (F .wide) ws) (length-take-le (F .wide) ws h) t in
       (a .0, sym (take-append-drop (F .wide) ws) ∙ ap (λ (l : List ℕ). l ++ drop (F .wide) ws) (a .1))
-
-  pub view-forth : (x : A) (rest : List ℕ) → F .Ok x → view F (F .enc x ++ rest) ≡ some x
-  view-forth x rest ok =
-      let t = take-at (F .enc x) rest (F .wide) (f .width x ok) in
-      let p = f .forth x ok in
-      rw (t, p .0, p .1)

@@ -4,7 +4,7 @@ use Prim.Native.Nat.{ℕ, zero, suc, _+_, _≤_}
 use native.Mathlib.Omega.{arith}
 use mathlib.Core.Path.{_≡_, ap, _∙_}
 use mathlib.Core.List.{List, _∷_}
-use lib.ListN.{length, getD, drop}
+use lib.ListN.{length, getD, set, drop}
 use lib.Seq.{drop-cons}
 
 -- the n words of ws from word i on, and then the rest
@@ -17,3 +17,7 @@ firsts-are zero i ws h = let e : i + 0 ≡ i = omega arith in rw e
 firsts-are (suc n) i ws h =
     let e : i + suc n ≡ suc i + n = omega arith in
     drop-cons ws i 0 (omega arith) ∙ ap (λ (l : List ℕ). getD ws i 0 ∷ l) (rw e (firsts-are n (suc i) ws (omega arith)))
+
+-- four words stored at the start of a run
+pub stored-four : (ws : List ℕ) (a b c d : ℕ) → 4 ≤ length ws → set (set (set (set ws 0 a) 1 b) 2 c) 3 d ≡ a ∷ b ∷ c ∷ d ∷ drop 4 ws
+stored-four ws a b c d h = ap (λ (l : List ℕ). set (set (set (set l 0 a) 1 b) 2 c) 3 d) (firsts-are 4 0 ws h)

@@ -1,20 +1,17 @@
 -- Where the words of one form lie in the words of another. `Lies` says what is seen there, `Part` also what the whole is when
 -- the part is put back; both at `midOf` and `putMid`, which is what the borrow checker says of `&ws[a..e]` and
--- `&mut ws[a..e]`. Here is one law for each combinator, and one (`in-part`, `in-lies`) for a part of a part; proofs/Turns
--- carries contracts over any of them.
-use Prim.Native.Nat.{ℕ, zero, suc, _+_, _*_, _<_, _≤_}
-use native.Mathlib.Nat.{zero-mul, suc-mul, mul-le-mul-right}
+-- `&mut ws[a..e]`. Here are the laws for a head and a body, for a row, for places of one width and for another type of the
+-- whole, and one (`in-part`, `in-lies`) for a part of a part; proofs/Turns carries contracts over any of them.
+use Prim.Native.Nat.{ℕ, zero, suc, _+_, _-_, _*_, _<_, _≤_}
 use native.Mathlib.Omega.{arith}
-use mathlib.Core.Path.{_≡_, refl, ap, sym, subst, _∙_}
-use mathlib.Core.Bool.{Bool}
+use mathlib.Core.Path.{_≡_, ap, sym, _∙_}
 use mathlib.Core.List.{List, [], _∷_, _++_, append-assoc, append-nil}
-use lib.ListN.{length, getD, set, take, drop, replicate, length-replicate, drop-of-length-le}
+use lib.ListN.{length, getD, set, take, drop, drop-of-length-le, take-append-drop}
 use lib.Seq.{take-at, drop-at, take-all, take-append-add, drop-append-add, take-take, take-add, drop-drop}
-use lib.Dec.{ltb}
-use borrow.Author.Tests.{ltb-true}
 use borrow.Rule.Slice.PartMut.{midOf, putMid}
 use Rattle.runs.specs.Form.{Form, Exact}
-use Rattle.runs.specs.Combine.{free, both, EachOk, wideRow, encRow, row, Place, at-place, many, encUp, upTo, such, led, seen-as}
+use Rattle.runs.specs.Combine.{both, EachOk, wideRow, encRow, row, Place, at-place, many, seen-as}
+use Rattle.runs.proofs.Words.{drop-take}
 use Rattle.runs.proofs.Each.{each-at}
 use Rattle.runs.proofs.Exact.{wide-many, flat-row}
 
@@ -122,125 +119,27 @@ module _ {A : Type 0} (P : Place A) (exact : (i : ℕ) → Exact (at-place P i))
         stored = λ xs ok y. rw (wide-many P 0 j, flat-row P 0 xs, flat-row P 0 (set xs j y)) at (r .stored xs ok y);
       }
 
--- ---- place j of at most n, while it is used; the place after the used ones is zeros, and what is put there comes last
-module _ {A : Type 0} (F : Form A) (exact : Exact F) where
-  after : (j : ℕ) (x : A) → F .Ok x → suc j * F .wide ≡ length (F .enc x) + j * F .wide
-  after j x ok = rw (suc-mul, exact .width x ok) (omega arith)
-
-  up-seen : (i n : ℕ) (xs : List A) (j : ℕ) (d : A) → length xs ≤ n → EachOk (λ k. F .Ok) i xs → j < length xs
-      → midOf (j * F .wide) (F .wide) (encUp F n xs) ≡ F .enc (getD xs j d)
-  unfolding EachOk encUp
-  up-seen i n [] j d l ok h = absurd (omega arith)
-  up-seen i zero (x ∷ xs) j d l ok h = absurd (omega arith)
-  up-seen i (suc n) (x ∷ xs) zero d l ok h = rw zero-mul (take-at (F .enc x) (encUp F n xs) (F .wide) (exact .width x (ok .0)))
-  up-seen i (suc n) (x ∷ xs) (suc j) d l ok h =
-      rw (after j x (ok .0), drop-append-add) (up-seen (suc i) n xs j d (omega arith) (ok .1) (omega arith))
-
-  up-stored : (i n : ℕ) (xs : List A) (j : ℕ) (y : A) → length xs ≤ n → EachOk (λ k. F .Ok) i xs → j < length xs
-      → putMid (j * F .wide) (F .wide) (encUp F n xs) (F .enc y) ≡ encUp F n (set xs j y)
-  unfolding EachOk encUp
-  up-stored i n [] j y l ok h = absurd (omega arith)
-  up-stored i zero (x ∷ xs) j y l ok h = absurd (omega arith)
-  up-stored i (suc n) (x ∷ xs) zero y l ok h =
-      rw (zero-mul, drop-at (F .enc x) (encUp F n xs) (F .wide) (exact .width x (ok .0)))
-  up-stored i (suc n) (x ∷ xs) (suc j) y l ok h =
-      rw (after j x (ok .0), take-append-add, drop-append-add, append-assoc, up-stored (suc i) n xs j y (omega arith) (ok .1) (omega arith))
-
-  pub up-part : (used : List ℕ → Bool) (n j : ℕ) (d : A) → j < n
-      → Part (such (upTo F used n) (λ xs. ltb j (length xs))) F (j * F .wide) (λ xs. getD xs j d) (λ xs y. set xs j y)
-  up-part used n j d h = record {
-    lies = record {
-      inside = omega (arith, mul-le-mul-right (F .wide) h, suc-mul j (F .wide));
-      fine = λ xs ok. each-at (λ k. F .Ok) xs j d (ok .0 .1) (ltb-true j (length xs) (ok .1));
-      seen = λ xs ok. up-seen 0 n xs j d (ok .0 .0) (ok .0 .1) (ltb-true j (length xs) (ok .1));
-    };
-    stored = λ xs ok y. up-stored 0 n xs j y (ok .0 .0) (ok .0 .1) (ltb-true j (length xs) (ok .1));
-  }
-
-  from-free : (i n : ℕ) (xs : List A) → length xs < n → EachOk (λ k. F .Ok) i xs
-      → midOf (length xs * F .wide) (F .wide) (encUp F n xs) ≡ replicate (F .wide) 0
-  unfolding EachOk encUp
-  from-free i zero xs l ok = absurd (omega arith)
-  from-free i (suc n) [] l ok = rw zero-mul (take-at (replicate (F .wide) 0) (encUp F n []) (F .wide) (length-replicate (F .wide) 0))
-  from-free i (suc n) (x ∷ xs) l ok =
-      rw (after (length xs) x (ok .0), drop-append-add) (from-free (suc i) n xs (omega arith) (ok .1))
-
-  from-added : (i n : ℕ) (xs : List A) (y : A) → length xs < n → EachOk (λ k. F .Ok) i xs
-      → putMid (length xs * F .wide) (F .wide) (encUp F n xs) (F .enc y) ≡ encUp F n (xs ++ (y ∷ []))
-  unfolding EachOk encUp
-  from-added i zero xs y l ok = absurd (omega arith)
-  from-added i (suc n) [] y l ok = rw (zero-mul, drop-at (replicate (F .wide) 0) (encUp F n []) (F .wide) (length-replicate (F .wide) 0))
-  from-added i (suc n) (x ∷ xs) y l ok =
-      rw (after (length xs) x (ok .0), take-append-add, drop-append-add, append-assoc, from-added (suc i) n xs y (omega arith) (ok .1))
-
-  pub up-free : (n : ℕ) (xs : List A) → length xs < n → EachOk (λ k. F .Ok) 0 xs
-      → midOf (length xs * F .wide) (F .wide) (encUp F n xs) ≡ replicate (F .wide) 0
-  up-free = from-free 0
-
-  pub up-added : (n : ℕ) (xs : List A) (y : A) → length xs < n → EachOk (λ k. F .Ok) 0 xs
-      → putMid (length xs * F .wide) (F .wide) (encUp F n xs) (F .enc y) ≡ encUp F n (xs ++ (y ∷ []))
-  up-added = from-added 0
-
--- ---- behind words that are computed: those words, and the value behind them. Neither is a part, since a value that is put
--- back asks for other words before it (`led-turns`).
-module _ {A : Type 0} (k : ℕ) (lead : A → List ℕ) (F : Form A) (long : (x : A) → F .Ok x → length (lead x) ≡ k) where
-  pub lead-lies : Lies (led k lead F) (free k) 0 lead
-  lead-lies = record { inside = omega arith; fine = long; seen = λ x ok. take-at (lead x) (F .enc x) k (long x ok) }
-
-  pub led-lies : Exact F → Lies (led k lead F) F k (λ x. x)
-  led-lies f = record {
-    inside = omega arith;
-    fine = λ x ok. ok;
-    seen = λ x ok.
-        let w = f .width x ok in
-        rw (drop-at (lead x) (F .enc x) k (long x ok)) (take-all (F .wide) (F .enc x) (omega arith));
-  }
-
--- ---- a part stays a part where a rule holds of the whole, and under another type of the whole or of the part
+-- ---- a part stays a part under another type of the whole
 module _ {A B : Type 0} {F : Form A} {G : Form B} {a : ℕ} {get : A → B} where
-  pub such-lies : (rule : A → Bool) → Lies F G a get → Lies (such F rule) G a get
-  such-lies rule p = record { inside = p .inside; fine = λ x ok. p .fine x (ok .0); seen = λ x ok. p .seen x (ok .0) }
-
   pub seen-lies : {C : Type 0} (to : A → C) (from : C → A) → Lies F G a get → Lies (seen-as to from F) G a (λ y. get (from y))
   seen-lies to from p = record { inside = p .inside; fine = λ y ok. p .fine (from y) ok; seen = λ y ok. p .seen (from y) ok }
 
-  pub lies-seen : {C : Type 0} (to : B → C) (from : C → B) → ((y : B) → from (to y) ≡ y) → Lies F G a get
-      → Lies F (seen-as to from G) a (λ x. to (get x))
-  lies-seen to from left p = record {
-    inside = p .inside;
-    fine = λ x ok. subst (G .Ok) (sym (left (get x))) (p .fine x ok);
-    seen = λ x ok. p .seen x ok ∙ ap (G .enc) (sym (left (get x)));
+  pub seen-part : {put : A → B → A} {C : Type 0} (to : A → C) (from : C → A) → ((x : A) → from (to x) ≡ x) → Part F G a get put
+      → Part (seen-as to from F) G a (λ y. get (from y)) (λ y z. to (put (from y) z))
+  seen-part {put} to from left p = record {
+    lies = seen-lies to from (p .lies);
+    stored = λ y ok z. p .stored (from y) ok z ∙ ap (F .enc) (sym (left (put (from y) z)));
   }
-
-  module _ {put : A → B → A} where
-    pub such-part : (rule : A → Bool) → Part F G a get put → Part (such F rule) G a get put
-    such-part rule p = record { lies = such-lies rule (p .lies); stored = λ x ok y. p .stored x (ok .0) y }
-
-    pub seen-part : {C : Type 0} (to : A → C) (from : C → A) → ((x : A) → from (to x) ≡ x) → Part F G a get put
-        → Part (seen-as to from F) G a (λ y. get (from y)) (λ y z. to (put (from y) z))
-    seen-part to from left p = record {
-      lies = seen-lies to from (p .lies);
-      stored = λ y ok z. p .stored (from y) ok z ∙ ap (F .enc) (sym (left (put (from y) z)));
-    }
-
-    pub part-seen : {C : Type 0} (to : B → C) (from : C → B) → ((y : B) → from (to y) ≡ y) → Part F G a get put
-        → Part F (seen-as to from G) a (λ x. to (get x)) (λ x z. put x (from z))
-    part-seen to from left p = record { lies = lies-seen to from left (p .lies); stored = λ x ok z. p .stored x ok (from z) }
 
 -- ---- a part of a part
 drop-within : {X : Type 0} (m g : ℕ) (l : List X) → m ≤ g → drop m (take g l) ++ drop g l ≡ drop m l
-drop-within zero zero l h = refl
-drop-within zero (suc g) [] h = refl
-drop-within zero (suc g) (x ∷ l) h = ap (λ (t : List _). x ∷ t) (drop-within 0 g l (omega arith))
-drop-within (suc m) zero l h = absurd (omega arith)
-drop-within (suc m) (suc g) [] h = refl
-drop-within (suc m) (suc g) (x ∷ l) h = drop-within m g l (omega arith)
+drop-within m g l h =
+    let e : m + (g - m) ≡ g = omega arith in
+    let d : drop (g - m) (drop m l) ≡ drop g l = drop-drop (g - m) m l ∙ ap (λ (k : ℕ). drop k l) e in
+    rw (drop-take m g l h, ← d) (take-append-drop (g - m) (drop m l))
 
 take-within : {X : Type 0} (b h g : ℕ) (l : List X) → b + h ≤ g → take h (drop b (take g l)) ≡ take h (drop b l)
-take-within zero h g l k = take-take h g l (omega arith)
-take-within (suc b) h zero l k = absurd (omega arith)
-take-within (suc b) h (suc g) [] k = refl
-take-within (suc b) h (suc g) (x ∷ l) k = take-within b h g l (omega arith)
+take-within b h g l k = rw (drop-take b g l (omega arith)) (take-take h (g - b) (drop b l) (omega arith))
 
 put-within : {X : Type 0} (a g b h : ℕ) (l ys : List X) → b + h ≤ g
     → putMid (a + b) h l ys ≡ putMid a g l (putMid b h (midOf a g l) ys)

@@ -1,11 +1,11 @@
--- Runs of zeros, equal runs, runs filled up with zeros: what the tests say of the lists.
+-- Runs of zeros, equal runs, runs filled up with zeros: what the tests say of the lists, and how such runs are cut.
 use Prim.Native.Nat.{ℕ, zero, suc, _+_, _-_, _≤_}
 use native.Mathlib.Omega.{arith}
 use mathlib.Core.Path.{_≡_, refl, sym, _∙_, ap₂, ap}
 use mathlib.Core.Bool.{true, false}
 use mathlib.Core.List.{List, [], _∷_, _++_}
-use lib.ListN.{length, take, replicate, length-append, length-replicate}
-use lib.Seq.{take-append-add, length-take-le}
+use lib.ListN.{length, getD, take, drop, replicate, length-append, length-replicate}
+use lib.Seq.{take-append-add, length-take-le, take-nil}
 use lib.Dec.{eqb}
 use borrow.Author.Tests.{eq-eqb, eqb-true}
 use Rattle.runs.specs.Words.{zeros, sameWords, pad}
@@ -48,9 +48,27 @@ take-zeros zero n h = refl
 take-zeros (suc m) zero h = absurd (omega arith)
 take-zeros (suc m) (suc n) h = ap (λ (l : List ℕ). 0 ∷ l) (take-zeros m n (omega arith))
 
+-- what is left of zeros
+pub drop-zeros : (m n : ℕ) → drop {A = ℕ} m (replicate n 0) ≡ replicate (n - m) 0
+drop-zeros zero n = let e : n - 0 ≡ n = omega arith in rw e
+drop-zeros (suc m) zero = let e : 0 - suc m ≡ 0 = omega arith in rw e
+drop-zeros (suc m) (suc n) = let e : suc n - suc m ≡ n - m = omega arith in rw e (drop-zeros m n)
+
 pub pad-fits : (n : ℕ) (ws : List ℕ) → length ws ≤ n → pad n ws ≡ ws ++ replicate (n - length ws) 0
 unfolding pad
 pad-fits n ws h =
     let e : length ws + (n - length ws) ≡ n = omega arith in
     let t = take-append-add ws (replicate n 0) (n - length ws) in
     (rw e at t) ∙ ap (λ (l : List ℕ). ws ++ l) (take-zeros (n - length ws) n (omega arith))
+
+-- ---- lists of any elements: of one element over and over every element is that one, and a list cut at both ends
+pub all-same : {A : Type 0} (n j : ℕ) (x : A) → getD (replicate n x) j x ≡ x
+all-same zero j x = refl
+all-same (suc n) zero x = refl
+all-same (suc n) (suc j) x = all-same n j x
+
+pub drop-take : {A : Type 0} (a n : ℕ) (xs : List A) → a ≤ n → drop a (take n xs) ≡ take (n - a) (drop a xs)
+drop-take zero n xs h = let e : n - 0 ≡ n = omega arith in rw e
+drop-take (suc a) zero xs h = absurd (omega arith)
+drop-take (suc a) (suc n) [] h = sym (take-nil (suc n - suc a))
+drop-take (suc a) (suc n) (x ∷ xs) h = let e : suc n - suc a ≡ n - a = omega arith in rw e (drop-take a n xs (omega arith))

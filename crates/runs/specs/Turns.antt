@@ -3,8 +3,6 @@
 use Prim.Native.Nat.{ℕ}
 use mathlib.Core.Path.{_≡_}
 use mathlib.Core.List.{List}
-use lib.ListN.{getD, set}
-use Rattle.runs.specs.Combine.{Both}
 
 -- ws are the words of some well-formed value
 pub record Is {A : Type 0} (enc : A → List ℕ) (Ok : A → Type 0) (ws : List ℕ) : Type 0 where
@@ -19,13 +17,3 @@ pub record Turns {A R : Type 0} (enc : A → List ℕ) (Ok : A → Type 0) (f : 
 -- a function that reads: of the words of x the result is `out x`
 pub record Reads {A R : Type 0} (enc : A → List ℕ) (Ok : A → Type 0) (out : A → R) (ws : List ℕ) (r : R) : Type 0 where
   pub says : (x : A) → Ok x → ws ≡ enc x → r ≡ out x
-
--- f at the head, at the body, and at element i of a list, where d stands for an element that is not there
-abbrev pub inHead : {A B : Type 0} → (A → A) → Both A B → Both A B
-inHead f x = record { head = f (x .head); body = x .body }
-
-abbrev pub inBody : {A B : Type 0} → (B → B) → Both A B → Both A B
-inBody f x = record { head = x .head; body = f (x .body) }
-
-abbrev pub At : {A : Type 0} → ℕ → A → (A → A) → List A → List A
-At i d f xs = set xs i (f (getD xs i d))

@@ -23,51 +23,24 @@ use Rattle.numbers.specs.declared.starts.Place.{Place}
 use Rattle.numbers.specs.Places.{RegisterAt}
 use Rattle.register.specs.Words.{RegisterWords, RegisterReads}
 use Rattle.dumping.specs.Dumps.{Holds, Dumps}
-use Rattle.strikes.specs.Admitted.{admits, dump-refusal}
+use Rattle.strikes.specs.Admitted.{admits, six-then-five, dump-refusal}
 use Rattle.strikes.specs.Calls.{ToldBytes}
 use Rattle.strikes.proofs.Through.{seen-part, replied}
 use Rattle.strikes.proofs.Admitting.{late-refusals, refused-early, Admitted}
 use Rattle.strikes.proofs.OnRegister.{enters}
 
 -- ---- 6 and 5 as the code tries them
-module _ (p q : Bool) where
-  six : p ≡ true → first-met (refusal 6 p ∷ refusal 5 q ∷ []) ≡ 6
-  unfolding first-met
-  six e = rw e
+-- where neither is met the output is not too short
+second-not-met : (p q : Bool) → six-then-five p q ≡ 0 → q ≡ false
+unfolding first-met
+second-not-met p q e =
+    by-test p (λ t. let z : _≡_ {A = ℕ} 6 0 = rw t at e in absurd (omega arith))
+    (λ f. by-test q (λ t. let z : _≡_ {A = ℕ} 5 0 = rw (f, t) at e in absurd (omega arith)) (λ g. g))
 
-  five : p ≡ false → q ≡ true → first-met (refusal 6 p ∷ refusal 5 q ∷ []) ≡ 5
-  unfolding first-met
-  five e f = rw (e, f)
-
-  neither : p ≡ false → q ≡ false → first-met (refusal 6 p ∷ refusal 5 q ∷ []) ≡ 0
-  unfolding first-met
-  neither e f = rw (e, f)
-
-  second-not-met : first-met (refusal 6 p ∷ refusal 5 q ∷ []) ≡ 0 → q ≡ false
-  unfolding first-met
-  second-not-met e =
-      by-test p (λ t. let z : _≡_ {A = ℕ} 6 0 = rw t at e in absurd (omega arith))
-      (λ f. by-test q (λ t. let z : _≡_ {A = ℕ} 5 0 = rw (f, t) at e in absurd (omega arith)) (λ g. g))
-
-module _ (u : Usable) (ws : List ℕ) (room : ℕ) {b : Bool} (pending : RegisterReads u (λ reg. reg .pending) ws b) where
-  pub is-six : b ≡ true → RegisterReads u (dump-refusal room) ws 6
-  unfolding dump-refusal
-  is-six t = record { says = λ reg ok is. sym (six (reg .pending) _ (sym (pending .says reg ok is) ∙ t)) }
-
-  module _ {n : ℕ} (long : RegisterReads u (λ reg. length (dump-bytes reg)) ws n) where
-    pub is-five : b ≡ false → room < n → RegisterReads u (dump-refusal room) ws 5
-    unfolding dump-refusal
-    is-five f h = record {
-      says = λ reg ok is.
-          sym (five (reg .pending) (ltb room (length (dump-bytes reg))) (sym (pending .says reg ok is) ∙ f) (lt-ltb room (length (dump-bytes reg)) (let l = long .says reg ok is in omega (arith, l))));
-    }
-
-    pub is-none : b ≡ false → n ≤ room → RegisterReads u (dump-refusal room) ws 0
-    unfolding dump-refusal
-    is-none f h = record {
-      says = λ reg ok is.
-          sym (neither (reg .pending) (ltb room (length (dump-bytes reg))) (sym (pending .says reg ok is) ∙ f) (le-ltb room (length (dump-bytes reg)) (let l = long .says reg ok is in omega (arith, l))));
-    }
+-- what is said of a pending flag and a length that were read is said of the register
+pub refusal-reads : (u : Usable) (ws : List ℕ) (room : ℕ) {b : Bool} {n v : ℕ} → RegisterReads u (λ reg. reg .pending) ws b → RegisterReads u (λ reg. length (dump-bytes reg)) ws n → v ≡ six-then-five b (ltb room n) → RegisterReads u (dump-refusal room) ws v
+unfolding dump-refusal
+refusal-reads u ws room pending long e = record { says = λ reg ok is. e ∙ rw (pending .says reg ok is, long .says reg ok is) }
 
 -- where neither is met the output has room
 room-left : (room : ℕ) (reg : Register) → dump-refusal room reg ≡ 0 → length (dump-bytes reg) ≤ room

@@ -26,6 +26,10 @@ opens st limits starts n =
     first-met (refusal 1 (not (settings-words-fit st && (limits-words-fit limits && starts-fit (settings-of st) starts)))
     ∷ refusal 2 (ltb n (words-needed (settings-of st))) ∷ [])
 
+-- 6 before 5
+abbrev pub six-then-five : Bool → Bool → ℕ
+six-then-five pending short = first-met (refusal 6 pending ∷ refusal 5 short ∷ [])
+
 -- 6 and 5 of a dump, into an output of so many bytes
 unfoldable pub dump-refusal : ℕ → Register → ℕ
-dump-refusal room reg = first-met (refusal 6 (reg .pending) ∷ refusal 5 (ltb room (length (dump-bytes reg))) ∷ [])
+dump-refusal room reg = six-then-five (reg .pending) (ltb room (length (dump-bytes reg)))

@@ -23,7 +23,7 @@ ghost use Rattle.model.specs.Calls.{settings-words-fit, ask-of as ask-read, jud
 ghost use Rattle.numbers.specs.Places.{RegisterAt};
 ghost use Rattle.register.specs.Rules.{asked-by};
 ghost use Rattle.register.specs.Words.{RegisterWords, RegisterReads};
-ghost use Rattle.strikes.specs.Admitted.{vets, admits, opens, dump-refusal};
+ghost use Rattle.strikes.specs.Admitted.{vets, admits, opens, six-then-five, dump-refusal};
 ghost use Rattle.strikes.specs.Calls.{asking, Told, ToldBytes, restore-answer};
 ghost use Rattle.strikes.specs.Places.{SpanAt};
 
@@ -415,19 +415,27 @@ pub fn totals(settings: &[u64], words: &[u64], class: u64) -> Answer
     Answer::Totals(t.entries, t.holders, t.units, t.expired)
 }
 
-// 0, or the first of the refusals of a dump that come after 4: 6 while the register is pending, 5 where the output is too short.
+// 6 where the register is pending, else 5 where the output is too short, else 0.
+fn six_or_five(pending: bool, short: bool) -> u64
+    ensures { λ n. ⌜ n ≡ six-then-five pending short ⌝ }
+{
+    if pending {
+        return 6;
+    }
+    if short {
+        return 5;
+    }
+    0
+}
+
+// 0, or the first of the refusals of a dump that come after 4.
 fn dump_refused(part: &[u64], u: Usable, room: usize) -> u64
     requires { ⌜ RegisterWords u (now part) ⌝ }
     ensures { λ n. ⌜ RegisterReads u (dump-refusal room) (now (part .entry)) n ⌝ }
 {
-    if register::is_pending(part) {
-        return 6;
-    }
+    let pending = register::is_pending(part);
     let long = dumping::dump_length(part, u);
-    if room < long {
-        return 5;
-    }
-    0
+    six_or_five(pending, room < long)
 }
 
 // Writes a register's dump at the start of an output, and leaves what lies behind it. The words are only read.

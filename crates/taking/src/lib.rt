@@ -10,12 +10,14 @@ pub use least::least_published;
 use model::Room;
 use model::Settings;
 use model::Verdict;
-use numbers::bounds;
+use numbers::starts;
+use numbers::starts::Place;
 use register::Ask;
 use tickets::Ticket;
 ghost use mathlib.Core.Path.{_≡_};
 ghost use Prim.Native.Nat.{_<_};
 ghost use Rattle.model.specs.Calls.{asked, taken, taken-batch};
+ghost use Rattle.numbers.specs.Places.{RegisterAt};
 ghost use Rattle.register.specs.Rules.{asked-by};
 ghost use Rattle.taking.specs.Rules.{Proper, Granted, room-verdict, taken-room, room-says, taken-share, share-says, left, rest-of, take-says, take-batch-says};
 ghost use Rattle.taking.specs.Words.{RunWords, StateTurns};
@@ -32,22 +34,29 @@ fn refused_by(room: Room) -> Verdict
 }
 
 // With a share to be had: where there is room the share is entered and the fingerprint struck, and otherwise nothing is altered.
-fn take_room(run: &mut [u64], s: Settings, r: usize, ticket: Ticket, spot: Spot) -> Verdict
-    requires { ⌜ (RunWords s (now run) × (r < s .registers)) × (Proper ticket × Granted s ticket (now run) spot) ⌝ }
+fn take_room(
+    run: &mut [u64],
+    s: Settings,
+    r: usize,
+    place: Place,
+    ticket: Ticket,
+    spot: Spot,
+) -> Verdict
+    requires { ⌜ (RunWords s (now run) × RegisterAt s r place) × (Proper ticket × Granted s ticket (now run) spot) ⌝ }
     ensures { λ v. ⌜ StateTurns s (taken-room s r ticket) (room-says s r ticket) (now (run .entry)) (now (run .exit)) v ⌝ }
 {
-    let room = whole::room(run, s, r, ticket);
+    let room = whole::room(run, s, r, place, ticket);
     let Room::At(position) = room else {
         return refused_by(room);
     };
     shares::enter(run, s, ticket, spot);
-    whole::strike(run, s, r, ticket, position);
+    whole::strike(run, s, r, place, ticket, position);
     Verdict::New
 }
 
 // A ticket that was judged new: its share first.
-fn take_share(run: &mut [u64], s: Settings, r: usize, ticket: Ticket) -> Verdict
-    requires { ⌜ (RunWords s (now run) × (r < s .registers)) × Proper ticket ⌝ }
+fn take_share(run: &mut [u64], s: Settings, r: usize, place: Place, ticket: Ticket) -> Verdict
+    requires { ⌜ (RunWords s (now run) × RegisterAt s r place) × Proper ticket ⌝ }
     ensures { λ v. ⌜ StateTurns s (taken-share s r ticket) (share-says s r ticket) (now (run .entry)) (now (run .exit)) v ⌝ }
 {
     let share = shares::look_up(run, s, ticket);
@@ -55,16 +64,23 @@ fn take_share(run: &mut [u64], s: Settings, r: usize, ticket: Ticket) -> Verdict
         return Verdict::Full;
     }
     let spot = share.spot;
-    take_room(run, s, r, ticket, spot)
+    take_room(run, s, r, place, ticket, spot)
 }
 
 // What is left of a take once the ticket is judged.
-fn take_judged(run: &mut [u64], s: Settings, r: usize, ask: Ask, verdict: Verdict) -> Verdict
-    requires { ⌜ RunWords s (now run) × (r < s .registers) ⌝ }
+fn take_judged(
+    run: &mut [u64],
+    s: Settings,
+    r: usize,
+    place: Place,
+    ask: Ask,
+    verdict: Verdict,
+) -> Verdict
+    requires { ⌜ RunWords s (now run) × RegisterAt s r place ⌝ }
     ensures { λ v. ⌜ StateTurns s (λ t. left r (rest-of s r (asked-by ask) verdict t) t) (λ t. rest-of s r (asked-by ask) verdict t .says) (now (run .entry)) (now (run .exit)) v ⌝ }
 {
     match verdict {
-        Verdict::New => take_share(run, s, r, tickets::ticket_of(bounds::usable_in(s, r), ask)),
+        Verdict::New => take_share(run, s, r, place, tickets::ticket_of(place.u, ask)),
         Verdict::Duplicate => verdict,
         Verdict::Late => verdict,
         Verdict::Ahead => verdict,
@@ -78,8 +94,9 @@ pub fn take(run: &mut [u64], s: Settings, r: usize, ask: Ask) -> Verdict
     requires { ⌜ RunWords s (now run) × (r < s .registers) ⌝ }
     ensures { λ v. ⌜ StateTurns s (λ t. asked s r taken (asked-by ask) t .state) (take-says s r (asked-by ask)) (now (run .entry)) (now (run .exit)) v ⌝ }
 {
-    let verdict = whole::judge(run, s, r, ask);
-    take_judged(run, s, r, ask, verdict)
+    let place = starts::place_of(s, r);
+    let verdict = whole::judge(run, s, r, place, ask);
+    take_judged(run, s, r, place, ask, verdict)
 }
 
 // As `take`, for a batch: judged as `judge_batch` judges it.
@@ -87,6 +104,7 @@ pub fn take_batch(run: &mut [u64], s: Settings, r: usize, ask: Ask) -> Verdict
     requires { ⌜ RunWords s (now run) × (r < s .registers) ⌝ }
     ensures { λ v. ⌜ StateTurns s (λ t. asked s r taken-batch (asked-by ask) t .state) (take-batch-says s r (asked-by ask)) (now (run .entry)) (now (run .exit)) v ⌝ }
 {
-    let verdict = whole::judge_batch(run, s, r, ask);
-    take_judged(run, s, r, ask, verdict)
+    let place = starts::place_of(s, r);
+    let verdict = whole::judge_batch(run, s, r, place, ask);
+    take_judged(run, s, r, place, ask, verdict)
 }

@@ -1,9 +1,9 @@
 // A ticket's share, in the words of its class's share book.
 use crate::tickets::Ticket;
 use book::Spot;
+use book::decide;
 use book::front;
 use model::Deliverer;
-use model::Draw;
 use model::Limits;
 use model::Second;
 use model::Settings;
@@ -14,7 +14,6 @@ ghost use mathlib.Core.Path.{_≡_};
 ghost use mathlib.Core.Bool.{true};
 ghost use Rattle.model.specs.Settings.{limits-fit};
 ghost use Rattle.model.specs.Class.{class-of};
-ghost use Rattle.model.specs.Book.{granted};
 ghost use Rattle.book.specs.ClassRules.{ClassIs, ClassReads};
 ghost use Rattle.taking.specs.Rules.{Proper, Granted, share-in, share-for, drawn-by, silent};
 ghost use Rattle.taking.specs.Words.{RunWords, StateReads, StateTurns};
@@ -23,21 +22,6 @@ ghost use Rattle.taking.specs.Words.{RunWords, StateReads, StateTurns};
 pub struct Share {
     pub spot: Spot,
     pub granted: bool,
-}
-
-fn is_granted(draw: Draw) -> bool
-    ensures { λ r. ⌜ r ≡ granted draw ⌝ }
-{
-    match draw {
-        Draw::Granted => true,
-        Draw::Closed => false,
-        Draw::OwnShare => false,
-        Draw::ClassLimit => false,
-        Draw::EqualPart => false,
-        Draw::TwiceLimit => false,
-        Draw::Places => false,
-        Draw::Pairs => false,
-    }
 }
 
 // The share in a class's own words.
@@ -56,7 +40,7 @@ fn look(
     let draw = book::draw(part, b, limits, closed, who, spot);
     Share {
         spot: spot,
-        granted: is_granted(draw),
+        granted: decide::is_granted(draw),
     }
 }
 

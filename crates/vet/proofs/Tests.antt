@@ -3,23 +3,18 @@ use Prim.Native.Nat.{ℕ, zero, suc, _+_, _-_, _*_, _≤_}
 use native.Mathlib.Omega.{arith}
 use mathlib.Core.Path.{_≡_, refl, sym, _∙_}
 use mathlib.Core.Bool.{Bool, true, false, _&&_, and-true}
-use mathlib.Core.List.{List, [], _∷_}
+use mathlib.Core.List.{List}
 use lib.ListN.{length, take, drop, length-drop}
-use lib.Seq.{take-all, take-nil, take-take, drop-drop}
+use lib.Seq.{take-all, take-length, take-take, drop-drop}
 use borrow.Rule.Slice.PartMut.{midOf, mid-len}
 use Rattle.runs.specs.Form.{Form}
 use Rattle.runs.specs.Combine.{both, wideRow, testRow, row, free}
+use Rattle.runs.proofs.Words.{drop-take}
 use Rattle.model.specs.declared.Class.{Class}
 use Rattle.model.specs.declared.Class.the-variants.{Feeders, Peers, Own}
 use Rattle.model.specs.RegisterWords.{each-form}
 
 -- ---- a head, and what lies behind it
-drop-take : {A : Type 0} (a n : ℕ) (ws : List A) → a ≤ n → drop a (take n ws) ≡ take (n - a) (drop a ws)
-drop-take zero n ws h = let e : n - 0 ≡ n = omega arith in rw e
-drop-take (suc a) zero ws h = absurd (omega arith)
-drop-take (suc a) (suc n) [] h = sym (take-nil (suc n - suc a))
-drop-take (suc a) (suc n) (x ∷ ws) h = let e : suc n - suc a ≡ n - a = omega arith in rw e (drop-take a n ws (omega arith))
-
 module _ {A B : Type 0} (F : Form A) (G : Form B) (n : ℕ) (ws : List ℕ) (a : ℕ) (ha : a ≡ F .wide) (h : a ≤ n) where
   head-is : F .test (take (F .wide) (take n ws)) ≡ F .test (midOf 0 (a - 0) ws)
   head-is =
@@ -40,14 +35,11 @@ module _ {A B : Type 0} (F : Form A) (G : Form B) (n : ℕ) (ws : List ℕ) (a :
 
 -- the same of all words that are lent
 module _ {A B : Type 0} (F : Form A) (G : Form B) (ws : List ℕ) (a : ℕ) (ha : a ≡ F .wide) (h : a ≤ length ws) where
-  whole : take (length ws) ws ≡ ws
-  whole = take-all (length ws) ws (omega arith)
-
   pub first-not : false ≡ F .test (midOf 0 (a - 0) ws) → false ≡ both F G .test ws
-  first-not t = rw whole at (head-not F G (length ws) ws a ha h t)
+  first-not t = rw (take-length ws) at (head-not F G (length ws) ws a ha h t)
 
   pub first-on : true ≡ F .test (midOf 0 (a - 0) ws) → (r : Bool) → r ≡ G .test (midOf a (length ws - a) ws) → r ≡ both F G .test ws
-  first-on t r b = rw whole at (head-on F G (length ws) ws a ha h t r b)
+  first-on t r b = rw (take-length ws) at (head-on F G (length ws) ws a ha h t r b)
 
 -- ---- three of one width, one for each class
 module _ {A : Type 0} (F : Class → Form A) (k : ℕ) (wide : (c : Class) → F c .wide ≡ k) (ws : List ℕ) (long : length ws ≡ 3 * k)

@@ -51,19 +51,20 @@ pub fn ours(settings: &Settings, dump: Option<&[u8]>) -> Ours {
     ours
 }
 
-/// What a full register holds, as a dump: the buckets that its windows reach at the reading, all but one, so that a ticket ahead of
-/// all of them finds a position; none for an empty register.
+/// What a register holds, as a dump: where it is full the buckets that its windows reach at the reading, all but one, so that a ticket
+/// ahead of all of them finds a position; none for an empty register.
 pub fn dump(settings: &Settings, fill: Fill, seed: u64) -> Option<Vec<u8>> {
-    if fill == Fill::Empty {
-        return None;
-    }
     let windows = settings.windows[0];
+    let (buckets, held) = match fill {
+        Fill::Empty => return None,
+        Fill::Begun => (1, 1),
+        Fill::Full => (windows.ring(), 3 * windows.slots / 4),
+    };
     let mut random = Random::new(seed);
-    let held = 3 * windows.slots / 4;
     let first = READING.div_ceil(windows.bucket);
     let mut dump = Dump::default();
     for class in &mut dump.classes {
-        *class = (0..windows.ring())
+        *class = (0..buckets)
             .map(|bucket| Listed {
                 bucket: first + bucket,
                 newest: READING,

@@ -5,18 +5,20 @@ use std::fmt::Write;
 use calls::{Limits, Settings, Window, Windows};
 use strikes::raw;
 
-use crate::both::{self, READING};
+use crate::both::{self, Ours, READING};
 use crate::measure::{nanoseconds, repeats};
+use crate::settings::Fill;
 
-fn settings(ring: u64, slots: u64) -> Settings {
+/// One register, and a book of one place in each class, which is what restored tickets need, or of four.
+fn settings(ring: u64, slots: u64, places: u64, pairs: u64) -> Settings {
     let window = Window {
         behind: 1_000 * (ring - 2),
         ahead: 0,
     };
     Settings {
         registers: 1,
-        places: 4,
-        pairs: 256,
+        places,
+        pairs,
         feeder_units: 0,
         peer_units: 0,
         limits: Limits::of([Limits::MOST; 5]),
@@ -29,8 +31,39 @@ fn settings(ring: u64, slots: u64) -> Settings {
     }
 }
 
-/// Words needed and the time of a judge, empty and full.
-fn by_words() -> Vec<(u64, f64, f64)> {
+/// Of so many words together a processor knows no branch by heart.
+const UNKNOWN: u64 = 400_000;
+
+/// The times of a judge.
+struct Judged {
+    words: u64,
+    empty: f64,
+    /// The same words over and over.
+    full: f64,
+    /// Several contents in turn, `UNKNOWN` words of them together or more.
+    turns: f64,
+}
+
+/// The least time of a judge over five measures, on contents that take turns.
+fn judge(settings: &Settings, fill: Fill, contents: u64) -> f64 {
+    let mut all: Vec<Ours> = (1..=contents)
+        .map(|seed| both::ours(settings, both::dump(settings, fill, seed).as_deref()))
+        .collect();
+    let ask = both::ask(&both::ticket(settings, 1));
+    let mut at = 0;
+    let mut judge = || {
+        at = (at + 1) % all.len();
+        let ours = &mut all[at];
+        raw::ask(raw::Manner::Judge, &ours.settings, &mut ours.words, &ask).expect("sound words");
+    };
+    let times = repeats(&mut judge).max(contents);
+    (0..5)
+        .map(|_| nanoseconds(times, &mut judge))
+        .fold(f64::MAX, f64::min)
+}
+
+/// The times of a judge by the words lent.
+fn by_words() -> Vec<Judged> {
     let sizes = [
         (4, 8),
         (16, 8),
@@ -46,22 +79,15 @@ fn by_words() -> Vec<(u64, f64, f64)> {
     sizes
         .iter()
         .map(|(ring, slots)| {
-            let settings = settings(*ring, *slots);
-            let [empty, full] =
-                [crate::settings::Fill::Empty, crate::settings::Fill::Full].map(|fill| {
-                    let dump = both::dump(&settings, fill, 1);
-                    let mut ours = both::ours(&settings, dump.as_deref());
-                    let ask = both::ask(&both::ticket(&settings, 1));
-                    let mut judge = || {
-                        raw::ask(raw::Manner::Judge, &ours.settings, &mut ours.words, &ask)
-                            .expect("sound words");
-                    };
-                    let times = repeats(&mut judge);
-                    (0..5)
-                        .map(|_| nanoseconds(times, &mut judge))
-                        .fold(f64::MAX, f64::min)
-                });
-            (settings.words(), empty, full)
+            // A full ring's buckets end in seconds of their own.
+            let settings = settings(*ring, *slots, 1, *ring);
+            let words = settings.words();
+            Judged {
+                words,
+                empty: judge(&settings, Fill::Empty, 1),
+                full: judge(&settings, Fill::Full, 1),
+                turns: judge(&settings, Fill::Full, 2.max(UNKNOWN / words)),
+            }
         })
         .collect()
 }
@@ -69,7 +95,7 @@ fn by_words() -> Vec<(u64, f64, f64)> {
 /// The time of a take, over a million of them with the clock going on.
 fn by_calls() -> Vec<(u64, f64)> {
     const PART: u64 = 20_000;
-    let settings = settings(64, 64);
+    let settings = settings(64, 64, 4, 256);
     let mut ours = both::ours(&settings, None);
     let mut number = 0;
     (0..50)
@@ -94,13 +120,46 @@ fn by_calls() -> Vec<(u64, f64)> {
         .collect()
 }
 
-pub fn picture() -> String {
-    let (words, calls) = (by_words(), by_calls());
+/// What was measured.
+pub struct Growth {
+    words: Vec<Judged>,
+    calls: Vec<(u64, f64)>,
+}
+
+pub fn measure() -> Growth {
+    Growth {
+        words: by_words(),
+        calls: by_calls(),
+    }
+}
+
+/// The time of a judge for each word lent.
+pub fn table(growth: &Growth) -> String {
+    let mut out = String::from(
+        "\n### A judge by the words lent, ns for each word\n\n| words | empty | full, the same words | full, contents in turn |\n|---:|---:|---:|---:|\n",
+    );
+    for judged in &growth.words {
+        let [empty, full, turns] =
+            [judged.empty, judged.full, judged.turns].map(|ns| ns / judged.words as f64);
+        let _ = writeln!(
+            out,
+            "| {} | {empty:.2} | {full:.2} | {turns:.2} |",
+            judged.words
+        );
+    }
+    out
+}
+
+pub fn picture(growth: &Growth) -> String {
+    let Growth { words, calls } = growth;
     let mut out = String::from(
         r#"<svg xmlns="http://www.w3.org/2000/svg" width="1000" height="420" font-family="sans-serif" font-size="12"><rect width="1000" height="420" fill="white"/>"#,
     );
-    let most = words.last().map_or(1.0, |(words, _, _)| *words as f64);
-    let longest = words.iter().map(|(_, _, full)| *full).fold(1.0, f64::max);
+    let most = words.last().map_or(1.0, |judged| judged.words as f64);
+    let longest = words
+        .iter()
+        .map(|judged| judged.full.max(judged.turns))
+        .fold(1.0, f64::max);
     let x = |words: u64| 80.0 + 380.0 * (words as f64).log10() / most.log10();
     let y = |ns: f64| 360.0 - 300.0 * ns.max(1.0).log10() / longest.log10();
     let _ = writeln!(
@@ -115,28 +174,26 @@ pub fn picture() -> String {
         x(most as u64),
         y(most)
     );
-    for (name, colour, of) in [("empty", "#3b7dd8", 0), ("full", "#c03030", 1)] {
+    type Of = fn(&Judged) -> f64;
+    let lines: [(&str, &str, Of); 3] = [
+        ("empty", "#3b7dd8", |judged| judged.empty),
+        ("full, the same words", "#c03030", |judged| judged.full),
+        ("full, contents in turn", "#d08020", |judged| judged.turns),
+    ];
+    for (row, (name, colour, of)) in lines.into_iter().enumerate() {
         let mut path = String::new();
-        for (at, (words, empty, full)) in words.iter().enumerate() {
-            let ns = if of == 0 { *empty } else { *full };
-            let _ = write!(
-                path,
-                "{}{:.1} {:.1}",
-                if at == 0 { 'M' } else { 'L' },
-                x(*words),
-                y(ns)
-            );
+        for (at, judged) in words.iter().enumerate() {
+            let (x, y) = (x(judged.words), y(of(judged)));
+            let _ = write!(path, "{}{x:.1} {y:.1}", if at == 0 { 'M' } else { 'L' });
             let _ = writeln!(
                 out,
-                r#"<circle cx="{:.1}" cy="{:.1}" r="3" fill="{colour}"/>"#,
-                x(*words),
-                y(ns)
+                r#"<circle cx="{x:.1}" cy="{y:.1}" r="3" fill="{colour}"/>"#
             );
         }
         let _ = writeln!(
             out,
-            r#"<path d="{path}" stroke="{colour}" fill="none"/><text x="400" y="{}" fill="{colour}">{name}</text>"#,
-            300 + 20 * of
+            r#"<path d="{path}" stroke="{colour}" fill="none"/><text x="330" y="{}" fill="{colour}">{name}</text>"#,
+            300 + 20 * row
         );
     }
     for power in 2..=6 {

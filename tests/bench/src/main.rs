@@ -29,12 +29,14 @@ fn main() -> ExitCode {
         return ExitCode::from(2);
     };
     for size in &SIZES {
-        for fill in [Fill::Empty, Fill::Full] {
+        for fill in [Fill::Empty, Fill::Begun, Fill::Full] {
             eprintln!("{}, {}", size.name, fill.name());
             print!("{}", table::of(size, fill, runs));
         }
     }
-    match std::fs::write(picture, growth::picture()) {
+    let growth = growth::measure();
+    print!("{}", growth::table(&growth));
+    match std::fs::write(picture, growth::picture(&growth)) {
         Ok(()) => ExitCode::SUCCESS,
         Err(why) => {
             eprintln!("bench: {picture}: {why}");

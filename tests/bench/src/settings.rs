@@ -64,6 +64,8 @@ impl Size {
 #[derive(Clone, Copy, PartialEq, Eq)]
 pub enum Fill {
     Empty,
+    /// One generation of every class holds a fingerprint: the Rust makes a ring with its first ticket.
+    Begun,
     /// Every generation of every class holds three quarters of its slots.
     Full,
 }
@@ -72,6 +74,7 @@ impl Fill {
     pub fn name(self) -> &'static str {
         match self {
             Self::Empty => "empty",
+            Self::Begun => "one ticket in each class",
             Self::Full => "full",
         }
     }

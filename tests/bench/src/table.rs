@@ -1,8 +1,10 @@
 //! The tables for one size and fill.
 
+use std::cell::RefCell;
 use std::fmt::Write;
 use std::hint::black_box;
 
+use calls::call::Ticket;
 use calls::{Form, Who};
 use strikes::raw;
 
@@ -59,6 +61,9 @@ impl<'a> Measures<'a> {
     }
 }
 
+/// The tickets that are judged in turn, too many for a processor to know what becomes of them.
+const TICKETS: u64 = 131_072;
+
 /// The contents that are gone through in turn, so that no branch predictor knows them by heart.
 const CONTENTS: u64 = 8;
 
@@ -99,7 +104,7 @@ pub fn of(size: &Size, fill: Fill, runs: usize) -> String {
         read.of("judge").to(read.of("sum"))
     });
     let dump = both::dump(&settings, fill, 1);
-    out += &calls(size, dump.as_deref(), runs);
+    out += &calls(size, fill, dump.as_deref(), runs);
     out
 }
 
@@ -168,51 +173,69 @@ impl Named {
     }
 }
 
-/// A call: its figures on the register, those of `floor` on the same words in the same runs, and those of the Rust.
+/// A call: its figures on the register, those of `floor` on the same words in the same runs, those of the Rust, and those of `floor`
+/// and the Rust's call one after the other.
 struct Compared {
     name: &'static str,
     ours: Figures,
     floor: Figures,
     rust: Figures,
+    both: Figures,
 }
 
-/// Each call on both. What a call costs beyond its soundness test is its time less that of `floor`.
-fn calls(size: &Size, dump: Option<&[u8]>, runs: usize) -> String {
+/// Each call on both. What a call costs beyond its soundness test is its time less that of `floor`; and it is no slower than the Rust's
+/// beyond that where it takes no longer than `floor` and the Rust's call one after the other. The two differ: a call whose branches
+/// nobody can foresee makes the soundness test after it slower.
+fn calls(size: &Size, fill: Fill, dump: Option<&[u8]>, runs: usize) -> String {
     let mut out = String::from(
-        "\n| call | register ns | less `floor` ns | Rust ns | (call less `floor`) to Rust | call to Rust |\n",
+        "\n| call | register ns | less `floor` ns | Rust ns | (call less `floor`) to Rust | call to Rust | call less (`floor`, then Rust) ns |\n",
     );
-    out += "|---|---:|---:|---:|---:|---:|\n";
+    out += "|---|---:|---:|---:|---:|---:|---:|\n";
     for Compared {
         name,
         ours,
         floor,
         rust,
-    } in pairs(size, dump, runs)
+        both,
+    } in pairs(size, fill, dump, runs)
     {
         let less = ours.minus(&floor);
         let _ = writeln!(
             out,
-            "| {name} | {} | {} | {} | {} | {} |",
+            "| {name} | {} | {} | {} | {} | {} | {} |",
             short(ours.median()),
             less.spread_or_noise(),
             short(rust.median()),
             less.to(&rust).spread_or_noise(),
-            short(ours.to(&rust).median())
+            short(ours.to(&rust).median()),
+            ours.minus(&both).spread()
         );
     }
     out
 }
 
-fn pairs(size: &Size, dump: Option<&[u8]>, runs: usize) -> Vec<Compared> {
+fn pairs(size: &Size, fill: Fill, dump: Option<&[u8]>, runs: usize) -> Vec<Compared> {
     let mut all = Vec::new();
-    for (name, form) in [("judge", Form::Judge), ("judge_batch", Form::JudgeBatch)] {
+    // The tickets are made before, and gone through in turn.
+    let tickets: Vec<_> = (0..TICKETS)
+        .map(|number| both::ticket(&size.settings(), number))
+        .collect();
+    let of = |number: u64| &tickets[(number % TICKETS) as usize];
+    for (name, form, flag) in [
+        ("judge", Form::Judge, 1),
+        ("judge_batch", Form::JudgeBatch, 1),
+        ("judge, the clock not synchronised", Form::Judge, 0),
+    ] {
         all.push(repeated(
             name,
             size,
             dump,
             runs,
-            |ours, number, settings| {
-                let ask = both::ask(&both::ticket(settings, number));
+            |ours, number, _| {
+                let ask = raw::Ask {
+                    flag,
+                    ..both::ask(of(number))
+                };
                 black_box(raw::ask(
                     both::manner(form),
                     &ours.settings,
@@ -221,8 +244,12 @@ fn pairs(size: &Size, dump: Option<&[u8]>, runs: usize) -> Vec<Compared> {
                 ))
                 .expect("sound words");
             },
-            |book, number, settings| {
-                black_box(book.ask(form, &both::ticket(settings, number), Who::Feeder(1)));
+            |book, number, _| {
+                let ticket = Ticket {
+                    flag,
+                    ..*of(number)
+                };
+                black_box(book.ask(form, &ticket, Who::Feeder(1)));
             },
         ));
     }
@@ -286,7 +313,7 @@ fn pairs(size: &Size, dump: Option<&[u8]>, runs: usize) -> Vec<Compared> {
             black_box(book.dump(0)).expect("not pending");
         },
     ));
-    if let Some(dump) = dump {
+    if let Some(dump) = dump.filter(|_| fill == Fill::Full) {
         all.push(restored(size, dump, runs));
     }
     all
@@ -304,7 +331,9 @@ fn repeated(
     let settings = size.settings();
     let (mut register, mut book) = (both::ours(&settings, dump), both::rust(&settings, dump));
     let other = both::ours(&settings, dump);
-    let (mut a, mut b) = (0, 0);
+    let book = RefCell::new(&mut book);
+    let theirs = RefCell::new(&mut theirs);
+    let (mut a, mut b, mut c) = (0, 0, 0);
     let mut measures = Measures(Vec::new());
     measures.add("floor", || look(&other));
     measures.add("ours", || {
@@ -313,7 +342,12 @@ fn repeated(
     });
     measures.add("rust", || {
         b += 1;
-        theirs(&mut book, b, &settings);
+        theirs.borrow_mut()(&mut book.borrow_mut(), b, &settings);
+    });
+    measures.add("both", || {
+        c += 1;
+        look(&other);
+        theirs.borrow_mut()(&mut book.borrow_mut(), c, &settings);
     });
     measures.run(runs);
     Compared {
@@ -321,6 +355,7 @@ fn repeated(
         ours: measures.of("ours").clone(),
         floor: measures.of("floor").clone(),
         rust: measures.of("rust").clone(),
+        both: measures.of("both").clone(),
     }
 }
 
@@ -368,7 +403,14 @@ fn taken(
             let ticket = next.next().expect("as many");
             black_box(book.ask(form, ticket, ticket.who));
         });
-        [ours, (before + after) / 2.0, rust]
+        let mut book = both::rust(&settings, dump);
+        let mut next = tickets.iter();
+        let both = nanoseconds(STRETCH, || {
+            look(&register);
+            let ticket = next.next().expect("as many");
+            black_box(book.ask(form, ticket, ticket.who));
+        });
+        [ours, (before + after) / 2.0, rust, both]
     };
     least_of(name, runs, stretches, &mut stretch)
 }
@@ -394,30 +436,32 @@ fn restored(size: &Size, dump: &[u8], runs: usize) -> Compared {
         let rust = nanoseconds(1, || {
             black_box(book.restore(0, dump));
         });
-        [ours, floor, rust]
+        [ours, floor, rust, floor + rust]
     };
     least_of("restore of the longest dump", runs, FEW_TIMES, &mut once)
 }
 
-/// In each run the least of so many times of the register's, of `floor` and of the Rust's.
+/// In each run the least of so many times of the register's, of `floor`, of the Rust's and of both.
 fn least_of(
     name: &'static str,
     runs: usize,
     times: usize,
-    once: &mut impl FnMut() -> [f64; 3],
+    once: &mut impl FnMut() -> [f64; 4],
 ) -> Compared {
     let mut compared = Compared {
         name,
         ours: Figures::default(),
         floor: Figures::default(),
         rust: Figures::default(),
+        both: Figures::default(),
     };
     for _ in 0..runs {
-        let all: Vec<[f64; 3]> = (0..times).map(|_| once()).collect();
+        let all: Vec<[f64; 4]> = (0..times).map(|_| once()).collect();
         let least = |of: usize| all.iter().map(|one| one[of]).fold(f64::MAX, f64::min);
         compared.ours.0.push(least(0));
         compared.floor.0.push(least(1));
         compared.rust.0.push(least(2));
+        compared.both.0.push(least(3));
     }
     compared
 }

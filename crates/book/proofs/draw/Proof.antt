@@ -5,12 +5,9 @@ use Rattle.model.proofs.Places.{limit-fits}
 use Rattle.model.specs.Book.{entries, place-units}
 use Rattle.model.specs.Class.{class-of}
 use Rattle.model.specs.Judge.{judge}
-use Rattle.runs.proofs.Chunks.{part}
-use Rattle.runs.specs.Turns.{Reads}
 use borrow.Author.Needs.{needs}
 use mathlib.Core.Path.{_≡_, ap, _∙_}
 use native.Mathlib.Omega.{arith}
-use borrow.Author.Needs.{needs}
 use Rattle.book.proofs.draw.Statement.{statement}
 use Rattle.book.proofs.draw.Tie as tie
 use Rattle.book.proofs.draw.Reads as reads

@@ -2,8 +2,6 @@ use Rattle.book.proofs.Entering.{enters, take-asks}
 use Rattle.book.specs.Pairs.{before}
 use Rattle.book.specs.Rules.{if-none}
 use Rattle.model.specs.Book.{place-units, enter}
-use Rattle.runs.proofs.Chunks.{part}
-use Rattle.runs.specs.Turns.{Reads}
 use borrow.Author.Needs.{needs}
 use lib.ListN.{take}
 use Rattle.book.proofs.enter.Statement.{statement}

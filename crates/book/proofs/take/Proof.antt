@@ -2,8 +2,6 @@ use Rattle.book.proofs.Entering.{found-of, refused, roomy-of, granted-t
 use Rattle.book.specs.Pairs.{before}
 use Rattle.book.specs.Sums.{taken}
 use Rattle.model.specs.Book.{enter}
-use Rattle.runs.proofs.Chunks.{part}
-use Rattle.runs.specs.Turns.{Reads}
 use borrow.Author.Needs.{needs}
 use borrow.Author.Tests.{not-true, not-false}
 use lib.ListN.{take}

@@ -4,8 +4,6 @@ use Rattle.book.specs.Pairs.{before}
 use Rattle.book.specs.Rules.{if-one}
 use Rattle.book.specs.Sums.{taken}
 use Rattle.model.specs.Book.{place-units}
-use Rattle.runs.proofs.Chunks.{part}
-use Rattle.runs.specs.Turns.{Reads}
 use borrow.Author.Needs.{needs}
 use borrow.Author.Tests.{not-true, not-false}
 use Rattle.book.proofs.untake.Statement.{statement}

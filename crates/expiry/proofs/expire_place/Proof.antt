@@ -1,4 +1,4 @@
-use mathlib.Core.Path.{refl}
+use Rattle.numbers.proofs.Placing.{ends-at}
 use Rattle.expiry.proofs.Walked.{asks-expire, asks-with, place-goes, place-stays}
 use borrow.Author.Needs.{needs}
 use Rattle.expiry.proofs.expire_place.Statement.{statement}
@@ -8,22 +8,16 @@ use Rattle.expiry.proofs.expire_place.Lts as lts
 use Rattle.book.proofs.moves.move_down.Reads as move-down-reads
 use Rattle.book.proofs.place.expire.Reads as expire-reads
 use Rattle.expiry.proofs.with_place.Reads as with-place-reads
+use Rattle.numbers.proofs.starts.place_start.Reads as place-start-reads
+use Rattle.numbers.proofs.starts.place_width.Reads as place-width-reads
 
--- src/lib.rt:53:17
-mul-width : tie.Need-mul-width
-mul-width c = search needs
+-- src/lib.rt:54:9
+place-start-requires : tie.Need-place-start-requires
+place-start-requires c κs = search needs
 
--- src/lib.rt:53:17
-add-width : tie.Need-add-width
-add-width c = search needs
-
--- src/lib.rt:54:17
-mul-a : tie.Need-mul-a
-mul-a c = search needs
-
--- src/lib.rt:54:13
-add-a : tie.Need-add-a
-add-a c = search needs
+-- src/lib.rt:55:17
+place-width-requires : tie.Need-place-width-requires
+place-width-requires c κs = search needs
 
 -- src/lib.rt:55:13
 add-e : tie.Need-add-e
@@ -47,7 +41,7 @@ part-expire-end c = search needs
 
 -- src/lib.rt:56:9
 expire-requires : tie.Need-expire-requires
-expire-requires c κs = let s = c .before .before .args in let g = c .before .before .pre in asks-expire (s .shares) (s .class) (s .t) (s .i) (s .kept) (s .part .now) _ _ refl refl g
+expire-requires c κs = let s = c .before .before .before .before .args in asks-expire (s .shares) (s .class) (s .t) (s .i) (s .kept) (s .part .now) _ _ (c .before .before .place-start .ensures .0) (ends-at _ (c .before .place-width .ensures .0)) (c .before .before .before .before .pre)
 
 -- src/lib.rt:58:9
 same-length : tie.Need-same-length
@@ -55,7 +49,7 @@ same-length c = search needs
 
 -- src/lib.rt:58:9
 returns : tie.Need-returns
-returns c = let s = c .before .before .before .before .before .before .before .args in let g = c .before .before .before .before .before .before .before .pre in place-goes (s .shares) (s .class) (s .t) (s .i) (s .kept) (s .part .now) _ _ refl refl _ _ (c .before .before .before .before .expire .ensures) (c .if1 .taken)
+returns c = let s = c .before .before .before .before .before .before .before .before .before .args in place-goes (s .shares) (s .class) (s .t) (s .i) (s .kept) (s .part .now) _ _ (c .before .before .before .before .before .before .before .place-start .ensures .0) (ends-at _ (c .before .before .before .before .before .before .place-width .ensures .0)) _ _ (c .before .before .before .before .expire .ensures) (c .if1 .taken)
 
 -- src/lib.rt:60:27
 mul-with-place : tie.Need-mul-with-place
@@ -75,15 +69,11 @@ part-with-place-end c = search needs
 
 -- src/lib.rt:60:9
 with-place-requires : tie.Need-with-place-requires
-with-place-requires c κs = let s = c .before .before .before .before .before .before .before .before .before .args in let g = c .before .before .before .before .before .before .before .before .before .pre in let x = asks-with (s .shares) (s .class) (s .t) (s .i) (s .kept) (s .part .now) _ _ refl refl _ _ (c .before .before .before .before .before .before .expire .ensures) g in (x .0, x .1, g .feeder, g .peer, g .places, g .entries, g .units)
+with-place-requires c κs = let s = c .before .before .before .before .before .before .before .before .before .before .before .args in let g = c .before .before .before .before .before .before .before .before .before .before .before .pre in let x = asks-with (s .shares) (s .class) (s .t) (s .i) (s .kept) (s .part .now) _ _ (c .before .before .before .before .before .before .before .before .before .place-start .ensures .0) (ends-at _ (c .before .before .before .before .before .before .before .before .place-width .ensures .0)) _ _ (c .before .before .before .before .before .before .expire .ensures) g in (x .0, x .1, g .feeder, g .peer, g .places, g .entries, g .units)
 
--- src/lib.rt:61:17
-mul-j : tie.Need-mul-j
-mul-j c = search needs
-
--- src/lib.rt:61:13
-add-j : tie.Need-add-j
-add-j c = search needs
+-- src/lib.rt:61:9
+place-start-requires-2 : tie.Need-place-start-requires-2
+place-start-requires-2 c κs = search needs
 
 -- src/lib.rt:62:22
 mul-move-down : tie.Need-mul-move-down
@@ -109,22 +99,20 @@ sub-move-down-2 c = search needs
 move-down-requires : tie.Need-move-down-requires
 move-down-requires c κs = search needs
 
--- src/lib.rt:42:1
+-- src/lib.rt:43:1
 same-length-2 : tie.Need-same-length-2
 same-length-2 c = search needs
 
--- src/lib.rt:42:1
+-- src/lib.rt:43:1
 returns-2 : tie.Need-returns-2
-returns-2 c = let s = c .before .before .before .before .before .before .before .before .before .before .before .before .before .before .before .args in let g = c .before .before .before .before .before .before .before .before .before .before .before .before .before .before .before .pre in place-stays (s .shares) (s .class) (s .t) (s .i) (s .kept) (s .part .now) _ _ refl refl _ _ (c .before .before .before .before .before .before .before .before .before .before .before .before .expire .ensures) (c .before .before .before .before .before .before .before .before .if1 .left) _ refl _ (c .before .before .move-down .ensures) _ (c .before .before .before .before .before .with-place .ensures)
+returns-2 c = let s = c .before .before .before .before .before .before .before .before .before .before .before .before .before .before .before .before .before .args in place-stays (s .shares) (s .class) (s .t) (s .i) (s .kept) (s .part .now) _ _ (c .before .before .before .before .before .before .before .before .before .before .before .before .before .before .before .place-start .ensures .0) (ends-at _ (c .before .before .before .before .before .before .before .before .before .before .before .before .before .before .place-width .ensures .0)) _ _ (c .before .before .before .before .before .before .before .before .before .before .before .before .expire .ensures) (c .before .before .before .before .before .before .before .before .if1 .left) _ (c .before .before .before .before .place-start2 .ensures .0) _ (c .before .before .move-down .ensures) _ (c .before .before .before .before .before .with-place .ensures)
 
 pub expire-place-spec : {M : Type 1} → statement M
 expire-place-spec =
     tie.close
     (tie.spec
-    mul-width
-    add-width
-    mul-a
-    add-a
+    place-start-requires
+    place-width-requires
     add-e
     mul-expire
     sub-expire
@@ -138,8 +126,7 @@ expire-place-spec =
     part-with-place-start
     part-with-place-end
     with-place-requires
-    mul-j
-    add-j
+    place-start-requires-2
     mul-move-down
     sub-move-down
     part-move-down-start

@@ -1,43 +1,42 @@
 use lib.ListN.{getD}
-use Rattle.expiry.proofs.Walked.{units-most}
 use borrow.Author.Needs.{needs}
 use Rattle.expiry.proofs.with_place.Statement.{statement}
 use Rattle.expiry.proofs.with_place.Tie as tie
 use Rattle.expiry.proofs.with_place.Reads as reads
 use Rattle.expiry.proofs.with_place.Lts as lts
-use Rattle.book.proofs.decide.units_of.Reads as units-of-reads
+use Rattle.numbers.proofs.units.units_of.Reads as units-of-reads
 
--- src/lib.rt:32:19
+-- src/lib.rt:33:19
 shared-slice-read-entries : tie.Need-shared-slice-read-entries
 shared-slice-read-entries c = search needs
 
--- src/lib.rt:33:49
+-- src/lib.rt:34:48
 shared-slice-read-units-of : tie.Need-shared-slice-read-units-of
 shared-slice-read-units-of c = search needs
 
--- src/lib.rt:33:9
+-- src/lib.rt:34:9
 units-of-requires : tie.Need-units-of-requires
 units-of-requires c κs = search needs
 
--- src/lib.rt:35:17
+-- src/lib.rt:36:17
 add-t10 : tie.Need-add-t10
 add-t10 c = search needs
 
--- src/lib.rt:36:18
+-- src/lib.rt:37:18
 add-t8 : tie.Need-add-t8
 add-t8 c = search needs
 
--- src/lib.rt:37:16
+-- src/lib.rt:38:16
 add-t11 : tie.Need-add-t11
 add-t11 c = search needs
 
--- src/lib.rt:37:16
+-- src/lib.rt:38:16
 add-t12 : tie.Need-add-t12
-add-t12 c = let s = c .before .before .before .before .before .before .before .args in let q = c .before .before .before .before .before .before .before .pre in let u = c .before .before .before .units-of .ensures in let m = units-most (s .shares) (s .class) (getD (s .place .now) 0 0) (q .2) (q .3) in search needs
+add-t12 c = search needs
 
--- src/lib.rt:28:1
+-- src/lib.rt:29:1
 returns : tie.Need-returns
-returns c = rw (c .before .before .before .units-of .ensures)
+returns c = let s = c .before .before .before .before .before .before .before .args in rw (c .before .before .before .units-of .ensures .1 (getD (s .place .now) 1 0))
 
 pub with-place-spec : {M : Type 1} → statement M
 with-place-spec =

@@ -8,6 +8,9 @@ use Rattle.restoring.proofs.restore.Reads as reads
 use Rattle.restoring.proofs.restore.Lts as lts
 use Rattle.restoring.proofs.restore_dump.Reads as restore-dump-reads
 
+place-of-requires : tie.Need-place-of-requires
+place-of-requires c κs = search needs
+
 -- src/lib.rt:35:5
 restore-dump-requires : tie.Need-restore-dump-requires
 restore-dump-requires c κs = search needs
@@ -18,7 +21,7 @@ same-length c = search needs
 
 -- src/lib.rt:31:1
 returns : tie.Need-returns
-returns c = let s = c .before .before .before .before .before .before in let a = c .before .before .restore-dump .ensures in (a .0, restore-turns (s .args .s) (s .args .r) (s .pre .0 .1) (dump-at (words-of (s .args .bytes .now))) (s .args .run .now) _ _ (a .1))
+returns c = let s = c .before .before .before .before .before .before .before in let a = c .before .before .restore-dump .ensures in (a .0, restore-turns (s .args .s) (s .args .r) (s .pre .0 .1) (dump-at (words-of (s .args .bytes .now))) (s .args .run .now) _ _ (a .1))
 
 pub restore-spec : {M : Type 1} → statement M
-restore-spec = tie.close (tie.spec restore-dump-requires same-length returns)
+restore-spec = tie.close (tie.spec place-of-requires restore-dump-requires same-length returns)

@@ -11,6 +11,9 @@ use Rattle.restoring.proofs.leaves.forget_floor.Reads as forget-floor-r
 use Rattle.restoring.proofs.leaves.raise_floor.Reads as raise-floor-reads
 use Rattle.restoring.proofs.restore_dump.Reads as restore-dump-reads
 
+place-of-requires : tie.Need-place-of-requires
+place-of-requires c κs = search needs
+
 -- src/lib.rt:43:5
 forget-floor-requires : tie.Need-forget-floor-requires
 forget-floor-requires c κs = search needs
@@ -25,7 +28,7 @@ same-length c = search needs
 
 -- src/lib.rt:46:9
 returns : tie.Need-returns
-returns c = let s = c .before .before .before .before .before .before .before .before .before .before .before in let a = c .before .before .before .restore-dump .ensures in (a .0, resume-plain (s .args .s) (s .args .r) (s .pre .0 .1) (dump-at (words-of (s .args .bytes .now))) (s .args .proven) (s .args .floor) (s .args .run .now) _ _ _ (not-true _ (c .if1 .taken)) (c .before .before .before .before .before .before .before .forget-floor .ensures .1) (a .1))
+returns c = let s = c .before .before .before .before .before .before .before .before .before .before .before .before in let a = c .before .before .before .restore-dump .ensures in (a .0, resume-plain (s .args .s) (s .args .r) (s .pre .0 .1) (dump-at (words-of (s .args .bytes .now))) (s .args .proven) (s .args .floor) (s .args .run .now) _ _ _ (not-true _ (c .if1 .taken)) (c .before .before .before .before .before .before .before .forget-floor .ensures .1) (a .1))
 
 -- src/lib.rt:48:5
 raise-floor-requires : tie.Need-raise-floor-requires
@@ -37,12 +40,13 @@ same-length-2 c = search needs
 
 -- src/lib.rt:39:1
 returns-2 : tie.Need-returns-2
-returns-2 c = let s = c .before .before .before .before .before .before .before .before .before .before .before .before .before .before .before in let a = c .before .before .before .before .before .before .before .restore-dump .ensures in let e = c .before .before .raise-floor .ensures in (e .0, resume-proven (s .args .s) (s .args .r) (s .pre .0 .1) (dump-at (words-of (s .args .bytes .now))) (s .args .proven) (s .args .floor) (s .args .run .now) _ _ _ _ (not-false _ (c .before .before .before .before .if1 .left)) (c .before .before .before .before .before .before .before .before .before .before .before .forget-floor .ensures .1) (a .1) (e .1))
+returns-2 c = let s = c .before .before .before .before .before .before .before .before .before .before .before .before .before .before .before .before in let a = c .before .before .before .before .before .before .before .restore-dump .ensures in let e = c .before .before .raise-floor .ensures in (e .0, resume-proven (s .args .s) (s .args .r) (s .pre .0 .1) (dump-at (words-of (s .args .bytes .now))) (s .args .proven) (s .args .floor) (s .args .run .now) _ _ _ _ (not-false _ (c .before .before .before .before .if1 .left)) (c .before .before .before .before .before .before .before .before .before .before .before .forget-floor .ensures .1) (a .1) (e .1))
 
 pub resume-spec : {M : Type 1} → statement M
 resume-spec =
     tie.close
     (tie.spec
+    place-of-requires
     forget-floor-requires
     restore-dump-requires
     same-length

@@ -9,11 +9,18 @@ is-ring-requires c κs = search needs
 returns : tie.Need-returns
 returns c = search needs
 
-contains-requires : tie.Need-contains-requires
-contains-requires c κs = (c .before .before .before .pre, c .before .is-ring .ensures (not-false _ (c .if1 .left)))
+position-requires : tie.Need-position-requires
+position-requires c κs = search needs
+
+contains-at-requires : tie.Need-contains-at-requires
+contains-at-requires c κs =
+    let l = c .before in
+    ((l .before .before .before .pre, l .before .is-ring .ensures (not-false _ (l .if1 .left))), c .position .ensures)
 
 contains-any-requires : tie.Need-contains-any-requires
-contains-any-requires c κs = (c .before .before .before .before .pre, c .before .before .is-ring .ensures (not-false _ (c .before .if1 .left)))
+contains-any-requires c κs =
+    let l = c .before .before in
+    (l .before .before .before .pre, l .before .is-ring .ensures (not-false _ (l .if1 .left)))
 
 returns-2 : tie.Need-returns-2
 returns-2 c = search needs
@@ -30,7 +37,8 @@ look-spec =
     (tie.spec
     is-ring-requires
     returns
-    contains-requires
+    position-requires
+    contains-at-requires
     contains-any-requires
     returns-2
     returns-3

@@ -4,16 +4,20 @@ use Prim.Native.Nat.{_-_}
 use native.Mathlib.Omega.{arith}
 use borrow.Author.Needs.{needs}
 use borrow.Author.Tests.{not-true, not-false}
+use Rattle.numbers.proofs.Placing.{ends-at}
 use Rattle.audit.proofs.Twice.{Apart, read-past, apart-none, apart-met, apart-on}
 use Rattle.audit.proofs.Spots.{read-none, read-one}
 use Rattle.audit.proofs.apart.distinct.Statement.{statement}
 use Rattle.audit.proofs.apart.distinct.Tie as tie
 
 abbrev Inv-loop : tie.InvT-loop
-Inv-loop body shares class i₀ i = Apart shares class body i
+Inv-loop body shares class width i₀ i = Apart shares class body i
 
 abbrev μ-loop : tie.MeasureT-loop
-μ-loop body shares class i₀ i = shares .places - i
+μ-loop body shares class width i₀ i = shares .places - i
+
+place-width-requires : tie.Need-place-width-requires Inv-loop μ-loop
+place-width-requires c κs = search needs
 
 loop-holds : tie.Need-loop-holds Inv-loop μ-loop
 loop-holds c = record { within = omega arith; goes = refl }
@@ -21,14 +25,8 @@ loop-holds c = record { within = omega arith; goes = refl }
 start-of-requires : tie.Need-start-of-requires Inv-loop μ-loop
 start-of-requires c κs = search needs
 
-mul-e : tie.Need-mul-e Inv-loop μ-loop
-mul-e c = search needs
-
 add-e : tie.Need-add-e Inv-loop μ-loop
 add-e c = search needs
-
-add-e-2 : tie.Need-add-e-2 Inv-loop μ-loop
-add-e-2 c = search needs
 
 mul-in-use : tie.Need-mul-in-use Inv-loop μ-loop
 mul-in-use c = search needs
@@ -47,12 +45,13 @@ in-use-requires c κs = search needs
 
 returns : tie.Need-returns Inv-loop μ-loop
 returns c =
-    let p = c .before .before .before .before .before .before .before .args in
+    let p = c .before .before .before .before .before .before .before .before .args in
     let l = c .before .before .before .before .before .loop in
     let h = c .before .before .before .before .loop-test .taken in
     let s = c .before .before .before .start-of .ensures in
+    let w = ends-at _ (c .before .before .before .before .before .before .place-width .ensures .0) in
     apart-none (p .shares) (p .class) (p .body .now) (l .i) (l .inv)
-    (read-none (p .shares) (p .class) (p .body .now) (l .i) _ _ s refl h _ (c .before .in-use .ensures) (not-true _ (c .if1 .taken)))
+    (read-none (p .shares) (p .class) (p .body .now) (l .i) _ _ s w h _ (c .before .in-use .ensures) (not-true _ (c .if1 .taken)))
 
 add-b : tie.Need-add-b Inv-loop μ-loop
 add-b c = search needs
@@ -77,11 +76,12 @@ has-from-requires c κs = search needs
 
 returns-2 : tie.Need-returns-2 Inv-loop μ-loop
 returns-2 c =
-    let p = c .before .before .before .before .before .before .before .before .before .before .before .args in
+    let p = c .before .before .before .before .before .before .before .before .before .before .before .before .args in
     let l = c .before .before .before .before .before .before .before .before .before .loop in
     let h = c .before .before .before .before .before .before .before .before .loop-test .taken in
     let s = c .before .before .before .before .before .before .before .start-of .ensures in
-    let r = read-one (p .shares) (p .class) (p .body .now) (l .i) _ _ s refl h _ (c .before .before .before .before .before .in-use .ensures) (not-false _ (c .before .before .before .before .if1 .left)) in
+    let w = ends-at _ (c .before .before .before .before .before .before .before .before .before .before .place-width .ensures .0) in
+    let r = read-one (p .shares) (p .class) (p .body .now) (l .i) _ _ s w h _ (c .before .before .before .before .before .in-use .ensures) (not-false _ (c .before .before .before .before .if1 .left)) in
     apart-met (p .shares) (p .class) (p .body .now) (l .i) (l .inv) _ r _ (c .before .has-from .ensures) (c .if2 .taken)
 
 add-i : tie.Need-add-i Inv-loop μ-loop
@@ -92,16 +92,17 @@ loop-less c = search needs
 
 loop-again : tie.Need-loop-again Inv-loop μ-loop
 loop-again c =
-    let p = c .before .before .before .before .before .before .before .before .before .before .before .args in
+    let p = c .before .before .before .before .before .before .before .before .before .before .before .before .args in
     let l = c .before .before .before .before .before .before .before .before .before .loop in
     let h = c .before .before .before .before .before .before .before .before .loop-test .taken in
     let s = c .before .before .before .before .before .before .before .start-of .ensures in
-    let r = read-one (p .shares) (p .class) (p .body .now) (l .i) _ _ s refl h _ (c .before .before .before .before .before .in-use .ensures) (not-false _ (c .before .before .before .before .if1 .left)) in
+    let w = ends-at _ (c .before .before .before .before .before .before .before .before .before .before .place-width .ensures .0) in
+    let r = read-one (p .shares) (p .class) (p .body .now) (l .i) _ _ s w h _ (c .before .before .before .before .before .in-use .ensures) (not-false _ (c .before .before .before .before .if1 .left)) in
     apart-on (p .shares) (p .class) (p .body .now) (l .i) (l .inv) _ r _ (c .before .has-from .ensures) (c .if2 .left) h
 
 returns-3 : tie.Need-returns-3 Inv-loop μ-loop
 returns-3 c =
-    let p = c .before .before .before .args in
+    let p = c .before .before .before .before .args in
     let l = c .before .loop in
     apart-none (p .shares) (p .class) (p .body .now) (l .i) (l .inv) (read-past (p .shares) (p .class) (p .body .now) (l .i) (c .loop-test .left))
 
@@ -111,11 +112,10 @@ distinct-spec =
     (tie.spec
     Inv-loop
     μ-loop
+    place-width-requires
     loop-holds
     start-of-requires
-    mul-e
     add-e
-    add-e-2
     mul-in-use
     sub-in-use
     part-in-use-start

@@ -1,29 +1,12 @@
-use Rattle.model.specs.Class.{class-number}
 use borrow.Author.Needs.{needs}
 use Rattle.audit.proofs.place.kind_sound.Statement.{statement}
 use Rattle.audit.proofs.place.kind_sound.Tie as tie
 
-enum-told : tie.Need-enum-told
-enum-told c = search needs
-
-enum-told-2 : tie.Need-enum-told-2
-enum-told-2 c = search needs
-
-enum-told-3 : tie.Need-enum-told-3
-enum-told-3 c = search needs
+class-number-requires : tie.Need-class-number-requires
+class-number-requires c κs = search needs
 
 returns : tie.Need-returns
-unfolding class-number
-returns c = rw (c .enum-told .given .1)
-
-returns-2 : tie.Need-returns-2
-unfolding class-number
-returns-2 c = rw (c .enum-told2 .given .1)
-
-returns-3 : tie.Need-returns-3
-unfolding class-number
-returns-3 c = rw (c .enum-told3 .given .1)
+returns c = rw (c .class-number .ensures)
 
 pub kind-sound-spec : {M : Type 1} → statement M
-kind-sound-spec =
-    tie.close (tie.spec enum-told enum-told-2 enum-told-3 returns returns-2 returns-3)
+kind-sound-spec = tie.close (tie.spec class-number-requires returns)

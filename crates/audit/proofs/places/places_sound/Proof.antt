@@ -1,18 +1,21 @@
 -- The places before i are used and sound, and have `sum` entries and `cost` units.
-use mathlib.Core.Path.{refl}
 use Prim.Native.Nat.{_-_}
 use native.Mathlib.Omega.{arith}
 use borrow.Author.Needs.{needs}
 use borrow.Author.Tests.{not-true, not-false}
+use Rattle.numbers.proofs.Placing.{ends-at}
 use Rattle.audit.proofs.Sums.{Adds, adds-all, adds-end, adds-stop, adds-not, adds-on}
 use Rattle.audit.proofs.places.places_sound.Statement.{statement}
 use Rattle.audit.proofs.places.places_sound.Tie as tie
 
 abbrev Inv-loop : tie.InvT-loop
-Inv-loop body shares class entries holders units sum₀ cost₀ i₀ sum cost i = Adds shares class body entries holders units sum cost i
+Inv-loop body shares class entries holders units width sum₀ cost₀ i₀ sum cost i = Adds shares class body entries holders units sum cost i
 
 abbrev μ-loop : tie.MeasureT-loop
-μ-loop body shares class entries holders units sum₀ cost₀ i₀ sum cost i = shares .places - i
+μ-loop body shares class entries holders units width sum₀ cost₀ i₀ sum cost i = shares .places - i
+
+place-width-requires : tie.Need-place-width-requires Inv-loop μ-loop
+place-width-requires c κs = search needs
 
 loop-holds : tie.Need-loop-holds Inv-loop μ-loop
 loop-holds c = adds-all _ _ _ _ _ _
@@ -20,14 +23,8 @@ loop-holds c = adds-all _ _ _ _ _ _
 start-of-requires : tie.Need-start-of-requires Inv-loop μ-loop
 start-of-requires c κs = search needs
 
-mul-e : tie.Need-mul-e Inv-loop μ-loop
-mul-e c = search needs
-
 add-e : tie.Need-add-e Inv-loop μ-loop
 add-e c = search needs
-
-add-e-2 : tie.Need-add-e-2 Inv-loop μ-loop
-add-e-2 c = search needs
 
 mul-in-use : tie.Need-mul-in-use Inv-loop μ-loop
 mul-in-use c = search needs
@@ -64,11 +61,12 @@ agree-requires c κs = search needs
 
 returns : tie.Need-returns Inv-loop μ-loop
 returns c =
-    let p = c .before .before .before .before .before .before .before .before .before .before .args in
+    let p = c .before .before .before .before .before .before .before .before .before .before .before .args in
     let l = c .before .before .before .before .before .before .before .before .loop in
     let h = c .before .before .before .before .before .before .before .loop-test .taken in
     let s = c .before .before .before .before .before .before .start-of .ensures in
-    adds-stop (p .shares) (p .class) (p .body .now) (p .entries) (p .holders) (p .units) (l .sum) (l .cost) (l .i) (l .inv) _ _ s refl h _ (c .before .before .before .before .in-use .ensures) (not-true _ (c .before .before .before .if1 .taken)) _ (c .before .zeros-only .ensures) _ (c .agree .ensures)
+    let w = ends-at _ (c .before .before .before .before .before .before .before .before .before .place-width .ensures .0) in
+    adds-stop (p .shares) (p .class) (p .body .now) (p .entries) (p .holders) (p .units) (l .sum) (l .cost) (l .i) (l .inv) _ _ s w h _ (c .before .before .before .before .in-use .ensures) (not-true _ (c .before .before .before .if1 .taken)) _ (c .before .zeros-only .ensures) _ (c .agree .ensures)
 
 mul-place-sound : tie.Need-mul-place-sound Inv-loop μ-loop
 mul-place-sound c = search needs
@@ -87,11 +85,12 @@ place-sound-requires c κs = search needs
 
 returns-2 : tie.Need-returns-2 Inv-loop μ-loop
 returns-2 c =
-    let p = c .before .before .before .before .before .before .before .before .before .before .args in
+    let p = c .before .before .before .before .before .before .before .before .before .before .before .args in
     let l = c .before .before .before .before .before .before .before .before .loop in
     let h = c .before .before .before .before .before .before .before .loop-test .taken in
     let s = c .before .before .before .before .before .before .start-of .ensures in
-    adds-not (p .shares) (p .class) (p .body .now) (p .entries) (p .holders) (p .units) (l .sum) (l .cost) (l .i) (l .inv) _ _ s refl h _ (c .before .before .before .before .in-use .ensures) (not-false _ (c .before .before .before .if1 .left)) _ (c .before .place-sound .ensures) (not-true _ (c .if2 .taken))
+    let w = ends-at _ (c .before .before .before .before .before .before .before .before .before .place-width .ensures .0) in
+    adds-not (p .shares) (p .class) (p .body .now) (p .entries) (p .holders) (p .units) (l .sum) (l .cost) (l .i) (l .inv) _ _ s w h _ (c .before .before .before .before .in-use .ensures) (not-false _ (c .before .before .before .if1 .left)) _ (c .before .place-sound .ensures) (not-true _ (c .if2 .taken))
 
 add-d : tie.Need-add-d Inv-loop μ-loop
 add-d c = search needs
@@ -113,11 +112,12 @@ units-of-requires c κs = search needs
 
 add-sum : tie.Need-add-sum Inv-loop μ-loop
 add-sum c =
-    let p = c .before .before .before .before .before .before .before .before .before .before .before .before .before .args in
+    let p = c .before .before .before .before .before .before .before .before .before .before .before .before .before .before .args in
     let l = c .before .before .before .before .before .before .before .before .before .before .before .loop in
     let h = c .before .before .before .before .before .before .before .before .before .before .loop-test .taken in
     let s = c .before .before .before .before .before .before .before .before .before .start-of .ensures in
-    let k = adds-on (p .shares) (p .class) (p .body .now) (p .entries) (p .holders) (p .units) (l .sum) (l .cost) (l .i) (l .inv) _ _ s refl h _ (c .before .before .before .before .before .before .before .in-use .ensures) (not-false _ (c .before .before .before .before .before .before .if1 .left)) _ (c .before .before .before .before .place-sound .ensures) (not-false _ (c .before .before .before .if2 .left)) _ (c .units-of .ensures .0) (c .units-of .ensures .1) in
+    let w = ends-at _ (c .before .before .before .before .before .before .before .before .before .before .before .before .place-width .ensures .0) in
+    let k = adds-on (p .shares) (p .class) (p .body .now) (p .entries) (p .holders) (p .units) (l .sum) (l .cost) (l .i) (l .inv) _ _ s w h _ (c .before .before .before .before .before .before .before .in-use .ensures) (not-false _ (c .before .before .before .before .before .before .if1 .left)) _ (c .before .before .before .before .place-sound .ensures) (not-false _ (c .before .before .before .if2 .left)) _ (c .units-of .ensures .0) (c .units-of .ensures .1) in
     let x = k .small in
     let y = k .low in
     let z = k .within in
@@ -125,11 +125,12 @@ add-sum c =
 
 add-cost : tie.Need-add-cost Inv-loop μ-loop
 add-cost c =
-    let p = c .before .before .before .before .before .before .before .before .before .before .before .before .before .args in
+    let p = c .before .before .before .before .before .before .before .before .before .before .before .before .before .before .args in
     let l = c .before .before .before .before .before .before .before .before .before .before .before .loop in
     let h = c .before .before .before .before .before .before .before .before .before .before .loop-test .taken in
     let s = c .before .before .before .before .before .before .before .before .before .start-of .ensures in
-    let k = adds-on (p .shares) (p .class) (p .body .now) (p .entries) (p .holders) (p .units) (l .sum) (l .cost) (l .i) (l .inv) _ _ s refl h _ (c .before .before .before .before .before .before .before .in-use .ensures) (not-false _ (c .before .before .before .before .before .before .if1 .left)) _ (c .before .before .before .before .place-sound .ensures) (not-false _ (c .before .before .before .if2 .left)) _ (c .units-of .ensures .0) (c .units-of .ensures .1) in
+    let w = ends-at _ (c .before .before .before .before .before .before .before .before .before .before .before .before .place-width .ensures .0) in
+    let k = adds-on (p .shares) (p .class) (p .body .now) (p .entries) (p .holders) (p .units) (l .sum) (l .cost) (l .i) (l .inv) _ _ s w h _ (c .before .before .before .before .before .before .before .in-use .ensures) (not-false _ (c .before .before .before .before .before .before .if1 .left)) _ (c .before .before .before .before .place-sound .ensures) (not-false _ (c .before .before .before .if2 .left)) _ (c .units-of .ensures .0) (c .units-of .ensures .1) in
     let x = k .small in
     let y = k .low in
     let z = k .within in
@@ -137,11 +138,12 @@ add-cost c =
 
 add-cost-2 : tie.Need-add-cost-2 Inv-loop μ-loop
 add-cost-2 c =
-    let p = c .before .before .before .before .before .before .before .before .before .before .before .before .before .args in
+    let p = c .before .before .before .before .before .before .before .before .before .before .before .before .before .before .args in
     let l = c .before .before .before .before .before .before .before .before .before .before .before .loop in
     let h = c .before .before .before .before .before .before .before .before .before .before .loop-test .taken in
     let s = c .before .before .before .before .before .before .before .before .before .start-of .ensures in
-    let k = adds-on (p .shares) (p .class) (p .body .now) (p .entries) (p .holders) (p .units) (l .sum) (l .cost) (l .i) (l .inv) _ _ s refl h _ (c .before .before .before .before .before .before .before .in-use .ensures) (not-false _ (c .before .before .before .before .before .before .if1 .left)) _ (c .before .before .before .before .place-sound .ensures) (not-false _ (c .before .before .before .if2 .left)) _ (c .units-of .ensures .0) (c .units-of .ensures .1) in
+    let w = ends-at _ (c .before .before .before .before .before .before .before .before .before .before .before .before .place-width .ensures .0) in
+    let k = adds-on (p .shares) (p .class) (p .body .now) (p .entries) (p .holders) (p .units) (l .sum) (l .cost) (l .i) (l .inv) _ _ s w h _ (c .before .before .before .before .before .before .before .in-use .ensures) (not-false _ (c .before .before .before .before .before .before .if1 .left)) _ (c .before .before .before .before .place-sound .ensures) (not-false _ (c .before .before .before .if2 .left)) _ (c .units-of .ensures .0) (c .units-of .ensures .1) in
     let x = k .small in
     let y = k .low in
     let z = k .within in
@@ -155,18 +157,19 @@ loop-less c = search needs
 
 loop-again : tie.Need-loop-again Inv-loop μ-loop
 loop-again c =
-    let p = c .before .before .before .before .before .before .before .before .before .before .before .before .before .args in
+    let p = c .before .before .before .before .before .before .before .before .before .before .before .before .before .before .args in
     let l = c .before .before .before .before .before .before .before .before .before .before .before .loop in
     let h = c .before .before .before .before .before .before .before .before .before .before .loop-test .taken in
     let s = c .before .before .before .before .before .before .before .before .before .start-of .ensures in
-    adds-on (p .shares) (p .class) (p .body .now) (p .entries) (p .holders) (p .units) (l .sum) (l .cost) (l .i) (l .inv) _ _ s refl h _ (c .before .before .before .before .before .before .before .in-use .ensures) (not-false _ (c .before .before .before .before .before .before .if1 .left)) _ (c .before .before .before .before .place-sound .ensures) (not-false _ (c .before .before .before .if2 .left)) _ (c .units-of .ensures .0) (c .units-of .ensures .1)
+    let w = ends-at _ (c .before .before .before .before .before .before .before .before .before .before .before .before .place-width .ensures .0) in
+    adds-on (p .shares) (p .class) (p .body .now) (p .entries) (p .holders) (p .units) (l .sum) (l .cost) (l .i) (l .inv) _ _ s w h _ (c .before .before .before .before .before .before .before .in-use .ensures) (not-false _ (c .before .before .before .before .before .before .if1 .left)) _ (c .before .before .before .before .place-sound .ensures) (not-false _ (c .before .before .before .if2 .left)) _ (c .units-of .ensures .0) (c .units-of .ensures .1)
 
 agree-requires-2 : tie.Need-agree-requires-2 Inv-loop μ-loop
 agree-requires-2 c κs = search needs
 
 returns-3 : tie.Need-returns-3 Inv-loop μ-loop
 returns-3 c =
-    let p = c .before .before .before .before .args in
+    let p = c .before .before .before .before .before .args in
     let l = c .before .before .loop in
     adds-end (p .shares) (p .class) (p .body .now) (p .entries) (p .holders) (p .units) (l .sum) (l .cost) (l .i) (l .inv) (c .before .loop-test .left) _ (c .agree2 .ensures)
 
@@ -176,11 +179,10 @@ places-sound-spec =
     (tie.spec
     Inv-loop
     μ-loop
+    place-width-requires
     loop-holds
     start-of-requires
-    mul-e
     add-e
-    add-e-2
     mul-in-use
     sub-in-use
     part-in-use-start

@@ -1,10 +1,7 @@
-use Rattle.book.proofs.Judging.{stored-four}
-use Rattle.runs.proofs.Chunks.{part}
-use Rattle.runs.specs.Turns.{Reads}
+use Rattle.runs.proofs.Firsts.{stored-four}
 use borrow.Author.Needs.{needs}
 use lib.ListN.{length-set}
 use native.Mathlib.Omega.{arith}
-use borrow.Author.Needs.{needs}
 use Rattle.book.proofs.totals.write.Statement.{statement}
 use Rattle.book.proofs.totals.write.Tie as tie
 use Rattle.book.proofs.totals.write.Reads as reads

@@ -1,6 +1,6 @@
 use lib.ListN.{length-set}
 use borrow.Author.Needs.{needs}
-use Rattle.generation.proofs.Leading.{lead-is}
+use Rattle.runs.proofs.Firsts.{stored-four}
 use Rattle.generation.proofs.Generation.lead.Statement.{statement}
 use Rattle.generation.proofs.Generation.lead.Tie as tie
 
@@ -20,7 +20,7 @@ same-length : tie.Need-same-length
 same-length c = search needs
 
 returns : tie.Need-returns
-returns c = lead-is (c .args .part .now) _ _ _ _ (c .pre)
+returns c = stored-four (c .args .part .now) _ _ _ _ (c .pre)
 
 pub lead-spec : {M : Type 1} → statement M
 lead-spec =

@@ -1,56 +1,20 @@
+use native.Mathlib.Omega.{arith}
 use borrow.Author.Needs.{needs}
+use Rattle.generation.proofs.Masking.{mask-is}
 use Rattle.generation.proofs.slots.first_slot.Statement.{statement}
 use Rattle.generation.proofs.slots.first_slot.Tie as tie
+
+sub-last : tie.Need-sub-last
+sub-last c = search needs
+
+returns : tie.Need-returns
+returns c = let a = c .before .args in mask-is (a .n) (omega arith) (c .if1 .taken) (a .fp)
 
 rem-result : tie.Need-rem-result
 rem-result c = search needs
 
-returns : tie.Need-returns
-returns c = rw (c .match .keys1)
-
 returns-2 : tie.Need-returns-2
-returns-2 c = rw (c .match .keys2)
-
-returns-3 : tie.Need-returns-3
-returns-3 c = rw (c .match .keys3)
-
-returns-4 : tie.Need-returns-4
-returns-4 c = rw (c .match .keys4)
-
-returns-5 : tie.Need-returns-5
-returns-5 c = rw (c .match .keys5)
-
-returns-6 : tie.Need-returns-6
-returns-6 c = rw (c .match .keys6)
-
-returns-7 : tie.Need-returns-7
-returns-7 c = rw (c .match .keys7)
-
-returns-8 : tie.Need-returns-8
-returns-8 c = rw (c .match .keys8)
-
-returns-9 : tie.Need-returns-9
-returns-9 c = rw (c .match .keys9)
-
-returns-10 : tie.Need-returns-10
-returns-10 c = rw (c .match .keys10)
-
-returns-11 : tie.Need-returns-11
-returns-11 c = search needs
+returns-2 c = search needs
 
 pub first-slot-spec : {M : Type 1} → statement M
-first-slot-spec =
-    tie.close
-    (tie.spec
-    rem-result
-    returns
-    returns-2
-    returns-3
-    returns-4
-    returns-5
-    returns-6
-    returns-7
-    returns-8
-    returns-9
-    returns-10
-    returns-11)
+first-slot-spec = tie.close (tie.spec sub-last returns rem-result returns-2)

@@ -1,29 +1,26 @@
-use native.Mathlib.Omega.{arith}
 use Rattle.numbers.proofs.Needed.{shares-few, book-some}
+use native.Mathlib.Omega.{arith}
 use Rattle.numbers.proofs.bounds.book_words.Statement.{statement}
 use Rattle.numbers.proofs.bounds.book_words.Tie as tie
 use Rattle.numbers.proofs.bounds.book_words.Reads as reads
 use Rattle.numbers.proofs.bounds.book_words.Lts as lts
+use Rattle.numbers.proofs.starts.place_width.Reads as place-width-reads
 
--- src/bounds.rt:199:5
+-- src/bounds.rt:200:17
+place-width-requires : tie.Need-place-width-requires
+place-width-requires c κs = shares-few (c .args .b) (c .pre) .pairs
+
+-- src/bounds.rt:201:5
 mul-result : tie.Need-mul-result
-mul-result c = let k = shares-few (c .before .args .b) (c .before .pre) in omega arith
+mul-result c = let k = shares-few (c .before .before .args .b) (c .before .before .pre) in let w = book-some (c .before .before .args .b) (c .before .before .pre) _ (c .before .place-width .ensures .0) .1 in omega arith
 
--- src/bounds.rt:199:21
+-- src/bounds.rt:201:5
 mul-result-2 : tie.Need-mul-result-2
-mul-result-2 c = let k = shares-few (c .before .before .args .b) (c .before .before .pre) in omega arith
+mul-result-2 c = let k = shares-few (c .before .before .args .b) (c .before .before .pre) in let w = book-some (c .before .before .args .b) (c .before .before .pre) _ (c .before .place-width .ensures .0) .1 in omega arith
 
--- src/bounds.rt:199:21
-add-result : tie.Need-add-result
-add-result c = let k = shares-few (c .before .before .args .b) (c .before .before .pre) in omega arith
-
--- src/bounds.rt:199:5
-mul-result-3 : tie.Need-mul-result-3
-mul-result-3 c = let k = shares-few (c .before .before .args .b) (c .before .before .pre) in omega arith
-
--- src/bounds.rt:195:1
+-- src/bounds.rt:196:1
 returns : tie.Need-returns
-returns c = book-some (c .before .before .args .b) (c .before .before .pre)
+returns c = book-some (c .before .before .args .b) (c .before .before .pre) _ (c .before .place-width .ensures .0)
 
 pub book-words-spec : {M : Type 1} → statement M
-book-words-spec = tie.close (tie.spec mul-result mul-result-2 add-result mul-result-3 returns)
+book-words-spec = tie.close (tie.spec place-width-requires mul-result mul-result-2 returns)

@@ -1,33 +1,34 @@
 use native.Mathlib.Nat.{mul-zero}
 use Rattle.model.specs.Numbers.{cap64}
 use native.Mathlib.Omega.{arith}
-use Rattle.numbers.proofs.Arithmetic.{uncapped, capped, product-fits, product-past}
+use Rattle.numbers.proofs.Arithmetic.{uncapped, capped, short-product, product-fits, product-past}
 use borrow.Author.Needs.{needs}
 use Rattle.numbers.proofs.capped.capped_mul.Statement.{statement}
 use Rattle.numbers.proofs.capped.capped_mul.Tie as tie
 use Rattle.numbers.proofs.capped.capped_mul.Reads as reads
 use Rattle.numbers.proofs.capped.capped_mul.Lts as lts
 
--- src/capped.rt:22:9
-returns : tie.Need-returns
-unfolding cap64
-returns c = let e = c .if1 .taken in rw (e, mul-zero) (omega arith)
-
--- src/capped.rt:24:13
-div-if2 : tie.Need-div-if2
-div-if2 c = search needs
-
--- src/capped.rt:25:16
 mul-result : tie.Need-mul-result
-mul-result c = let k = product-fits (c .before .before .args .a) (c .before .before .args .b) (c .before .if1 .left) (c .if2 .taken) in omega arith
+mul-result c = let k = short-product (c .before .args .a) (c .before .args .b) (c .if1 .taken) in omega arith
 
--- src/capped.rt:25:9
+returns : tie.Need-returns
+returns c = uncapped _ (short-product (c .before .args .a) (c .before .args .b) (c .if1 .taken))
+
 returns-2 : tie.Need-returns-2
-returns-2 c = uncapped _ (product-fits (c .before .before .args .a) (c .before .before .args .b) (c .before .if1 .left) (c .if2 .taken))
+unfolding cap64
+returns-2 c = let e = c .if2 .taken in rw (e, mul-zero) (omega arith)
 
--- src/capped.rt:18:1
+div-if3 : tie.Need-div-if3
+div-if3 c = search needs
+
+mul-result-2 : tie.Need-mul-result-2
+mul-result-2 c = let s = c .before .before .before in let k = product-fits (s .args .a) (s .args .b) (c .before .if2 .left) (c .if3 .taken) in omega arith
+
 returns-3 : tie.Need-returns-3
-returns-3 c = capped _ (product-past (c .before .before .args .a) (c .before .before .args .b) (c .before .if1 .left) (c .if2 .left))
+returns-3 c = let s = c .before .before .before in uncapped _ (product-fits (s .args .a) (s .args .b) (c .before .if2 .left) (c .if3 .taken))
+
+returns-4 : tie.Need-returns-4
+returns-4 c = let s = c .before .before .before in capped _ (product-past (s .args .a) (s .args .b) (c .before .if2 .left) (c .if3 .left))
 
 pub capped-mul-spec : {M : Type 1} → statement M
-capped-mul-spec = tie.close (tie.spec returns div-if2 mul-result returns-2 returns-3)
+capped-mul-spec = tie.close (tie.spec mul-result returns returns-2 div-if3 mul-result-2 returns-3 returns-4)

@@ -1,31 +1,29 @@
-use mathlib.Core.Path.{refl}
+use Rattle.numbers.proofs.Placing.{places-few}
 use Rattle.numbers.proofs.Needed.{shares-few}
-use Rattle.numbers.proofs.Placing.{class-few}
+use Prim.Native.Nat.{ℕ, _+_, _*_}
+use mathlib.Core.Path.{ap}
 use native.Mathlib.Omega.{arith}
 use Rattle.numbers.proofs.starts.class_width.Statement.{statement}
 use Rattle.numbers.proofs.starts.class_width.Tie as tie
 use Rattle.numbers.proofs.starts.class_width.Reads as reads
 use Rattle.numbers.proofs.starts.class_width.Lts as lts
+use Rattle.numbers.proofs.starts.place_width.Reads as place-width-reads
 
--- src/starts.rt:25:17
-mul-place : tie.Need-mul-place
-mul-place c = let f = shares-few (c .args .b) (c .pre) in let p = f .places in let q = f .pairs in omega arith
+-- src/starts.rt:45:9
+place-width-requires : tie.Need-place-width-requires
+place-width-requires c κs = shares-few (c .args .b) (c .pre) .pairs
 
--- src/starts.rt:25:17
-add-place : tie.Need-add-place
-add-place c = let f = shares-few (c .args .b) (c .pre) in let p = f .places in let q = f .pairs in omega arith
-
--- src/starts.rt:26:9
+-- src/starts.rt:46:9
 mul-result : tie.Need-mul-result
-mul-result c = let k = class-few (c .args .b) (c .pre) in omega arith
+mul-result c = let k = places-few (c .before .args .b .places) _ (shares-few (c .before .args .b) (c .before .pre) .places) (c .place-width .ensures .1) in omega arith
 
--- src/starts.rt:26:5
+-- src/starts.rt:46:5
 add-result : tie.Need-add-result
-add-result c = let k = class-few (c .args .b) (c .pre) in omega arith
+add-result c = let k = places-few (c .before .args .b .places) _ (shares-few (c .before .args .b) (c .before .pre) .places) (c .place-width .ensures .1) in omega arith
 
--- src/starts.rt:21:1
+-- src/starts.rt:41:1
 returns : tie.Need-returns
-returns c = let k = class-few (c .args .b) (c .pre) in (refl, omega arith)
+returns c = let k = places-few (c .before .args .b .places) _ (shares-few (c .before .args .b) (c .before .pre) .places) (c .place-width .ensures .1) in (ap (λ (n : ℕ). 4 + (c .before .args .b .places) * n) (c .place-width .ensures .0), omega arith)
 
 pub class-width-spec : {M : Type 1} → statement M
-class-width-spec = tie.close (tie.spec mul-place add-place mul-result add-result returns)
+class-width-spec = tie.close (tie.spec place-width-requires mul-result add-result returns)

@@ -28,7 +28,7 @@ add-t6 c =
 returns : tie.Need-returns
 returns c =
     let s = c .before .before .before in
-    register-placed (s .args .s) (s .args .r) _ _ _ (s .pre .0) (c .before .before .usable-in .ensures) (c .before .register-start .ensures .0)
+    register-placed (s .args .s) (s .args .r) _ _ _ (s .pre .0) (s .pre .1) (c .before .before .usable-in .ensures) (c .before .register-start .ensures .0)
     (c .before .register-start .ensures .1) (c .register-width .ensures .0)
 
 pub place-of-spec : {M : Type 1} → statement M

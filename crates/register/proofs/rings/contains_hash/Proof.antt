@@ -11,27 +11,27 @@ use Rattle.register.proofs.rings.holds_hash.Reads as holds-hash-reads
 as-read-requires : tie.Need-as-read-requires
 as-read-requires c κs = search needs
 
--- src/rings.rt:58:9
+rings-of-requires : tie.Need-rings-of-requires
+rings-of-requires c κs = search needs
+
 holds-hash-requires : tie.Need-holds-hash-requires
-holds-hash-requires c κs = (print-positive _ _ (c .as-read .ensures), c .before .before .pre)
+holds-hash-requires c κs = ((print-positive _ _ (c .before .as-read .ensures), c .before .before .before .pre), c .rings-of .ensures)
 
--- src/rings.rt:59:9
 holds-hash-requires-2 : tie.Need-holds-hash-requires-2
-holds-hash-requires-2 c κs = (print-positive _ _ (c .before .as-read .ensures), c .before .before .before .pre)
+holds-hash-requires-2 c κs = ((print-positive _ _ (c .before .before .as-read .ensures), c .before .before .before .before .pre), c .before .rings-of .ensures)
 
--- src/rings.rt:60:9
 holds-hash-requires-3 : tie.Need-holds-hash-requires-3
-holds-hash-requires-3 c κs = (print-positive _ _ (c .before .before .as-read .ensures), c .before .before .before .before .pre)
+holds-hash-requires-3 c κs = ((print-positive _ _ (c .before .before .before .as-read .ensures), c .before .before .before .before .before .pre), c .before .before .rings-of .ensures)
 
--- src/rings.rt:53:1
 returns : tie.Need-returns
-returns c = let a = c .before .before .before in hash-reads _ (a .before .before .args .fp) _ _ _ _ _ (a .as-read .ensures) (c .before .before .holds-hash .ensures) (c .before .holds-hash2 .ensures) (c .holds-hash3 .ensures)
+returns c = let a = c .before .before .before .before in hash-reads _ (a .before .before .args .fp) _ _ _ _ _ (a .as-read .ensures) (c .before .before .holds-hash .ensures) (c .before .holds-hash2 .ensures) (c .holds-hash3 .ensures)
 
 pub contains-hash-spec : {M : Type 1} → statement M
 contains-hash-spec =
     tie.close
     (tie.spec
     as-read-requires
+    rings-of-requires
     holds-hash-requires
     holds-hash-requires-2
     holds-hash-requires-3

@@ -4,12 +4,12 @@ use Rattle.register.proofs.rings.holds_hash.Statement.{statement}
 use Rattle.register.proofs.rings.holds_hash.Tie as tie
 use Rattle.register.proofs.rings.holds_hash.Reads as reads
 use Rattle.register.proofs.rings.holds_hash.Lts as lts
-use Rattle.register.proofs.places.ring_at.Reads as ring-at-reads
+use Rattle.register.proofs.places.place_in.Reads as place-in-reads
 use Rattle.ring.proofs.contains_any.Reads as contains-any-reads
 
 -- src/rings.rt:46:9
-ring-at-requires : tie.Need-ring-at-requires
-ring-at-requires c κs = search needs
+place-in-requires : tie.Need-place-in-requires
+place-in-requires c κs = search needs
 
 -- src/rings.rt:49:24
 mul-contains-any : tie.Need-mul-contains-any
@@ -29,17 +29,17 @@ part-contains-any-end c = search needs
 
 -- src/rings.rt:49:5
 contains-any-requires : tie.Need-contains-any-requires
-contains-any-requires c κs = let s = c .before .before .before in (s .pre .0, ring-asks _ _ _ (c .before .ring-at .ensures) (s .args .part .now) (s .pre .1))
+contains-any-requires c κs = let s = c .before .before .before in (s .pre .0 .0, ring-asks _ _ _ (c .before .place-in .ensures) (s .args .part .now) (s .pre .0 .1))
 
 -- src/rings.rt:42:1
 returns : tie.Need-returns
-returns c = ring-reads _ _ _ (c .before .before .ring-at .ensures) (c .contains-any .ensures)
+returns c = ring-reads _ _ _ (c .before .before .place-in .ensures) (c .contains-any .ensures)
 
 pub holds-hash-spec : {M : Type 1} → statement M
 holds-hash-spec =
     tie.close
     (tie.spec
-    ring-at-requires
+    place-in-requires
     mul-contains-any
     sub-contains-any
     part-contains-any-start

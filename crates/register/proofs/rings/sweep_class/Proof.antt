@@ -6,12 +6,12 @@ use Rattle.register.proofs.rings.sweep_class.Tie as tie
 use Rattle.register.proofs.rings.sweep_class.Reads as reads
 use Rattle.register.proofs.rings.sweep_class.Lts as lts
 use Rattle.register.proofs.heading.raise_by.Reads as raise-by-reads
-use Rattle.register.proofs.places.ring_at.Reads as ring-at-reads
+use Rattle.register.proofs.places.place_in.Reads as place-in-reads
 use Rattle.ring.proofs.sweep.Reads as sweep-reads
 
 -- src/rings.rt:91:9
-ring-at-requires : tie.Need-ring-at-requires
-ring-at-requires c κs = search needs
+place-in-requires : tie.Need-place-in-requires
+place-in-requires c κs = search needs
 
 -- src/rings.rt:94:28
 mul-sweep : tie.Need-mul-sweep
@@ -31,7 +31,7 @@ part-sweep-end c = search needs
 
 -- src/rings.rt:94:9
 sweep-requires : tie.Need-sweep-requires
-sweep-requires c κs = let s = c .before .before .before in ring-asks _ _ _ (c .before .ring-at .ensures) (s .args .part .now) (s .pre)
+sweep-requires c κs = let s = c .before .before .before in ring-asks _ _ _ (c .before .place-in .ensures) (s .args .part .now) (s .pre .0)
 
 -- src/rings.rt:95:5
 raise-by-requires : tie.Need-raise-by-requires
@@ -43,13 +43,13 @@ same-length c = search needs
 
 -- src/rings.rt:87:1
 returns : tie.Need-returns
-returns c = let d = c .before .before .before .before .before .before in let s = d .before .before .before .before in let t = class-turns (s .args .u) (s .args .class) (s .args .from .0) (s .args .through .0) _ _ _ _ (ring-turns _ _ _ (d .before .before .ring-at .ensures) (d .sweep .ensures .1)) (c .before .before .raise-by .ensures (s .args .u)) in (class-words (s .args .u) (s .args .class) (s .args .from .0) (s .args .through .0) _ _ t (s .pre), t)
+returns c = let d = c .before .before .before .before .before .before in let s = d .before .before .before .before in let t = class-turns (s .args .u) (s .args .class) (s .args .from .0) (s .args .through .0) _ _ _ _ (ring-turns _ _ _ (d .before .before .place-in .ensures) (d .sweep .ensures .1)) (c .before .before .raise-by .ensures (s .args .u)) in (class-words (s .args .u) (s .args .class) (s .args .from .0) (s .args .through .0) _ _ t (s .pre .0), t)
 
 pub sweep-class-spec : {M : Type 1} → statement M
 sweep-class-spec =
     tie.close
     (tie.spec
-    ring-at-requires
+    place-in-requires
     mul-sweep
     sub-sweep
     part-sweep-start

@@ -1,10 +1,9 @@
-use Rattle.register.proofs.Sweeps.{sweep-idle, sweep-back, sweep-on, swept-words}
+use Rattle.register.proofs.Sweeps.{sweep-idle, sweep-same, sweep-back, sweep-on, swept-words}
 use borrow.Author.Needs.{needs}
 use Rattle.register.proofs.sweeping.sweep.Statement.{statement}
 use Rattle.register.proofs.sweeping.sweep.Tie as tie
 use Rattle.register.proofs.sweeping.sweep.Reads as reads
 use Rattle.register.proofs.sweeping.sweep.Lts as lts
-use Rattle.numbers.proofs.spans.ring_of.Reads as ring-of-reads
 use Rattle.numbers.proofs.spans.through_of.Reads as through-of-reads
 use Rattle.register.proofs.heading.is_pending.Reads as is-pending-reads
 use Rattle.register.proofs.heading.set_swept.Reads as set-swept-reads
@@ -31,21 +30,24 @@ through-of-requires c κs = search needs
 slice-read-sweep-from : tie.Need-slice-read-sweep-from
 slice-read-sweep-from c = search needs
 
--- src/sweeping.rt:49:9
-set-swept-requires : tie.Need-set-swept-requires
-set-swept-requires c κs = search needs
-
--- src/sweeping.rt:50:9
 same-length-2 : tie.Need-same-length-2
 same-length-2 c = search needs
 
--- src/sweeping.rt:50:9
 returns-2 : tie.Need-returns-2
-returns-2 c = let d = c .before .before .before .before .before .before .before .before in let s = d .before .before .before .before .before in let t = sweep-back (s .args .u) (s .args .reading .0) (s .args .part .now) _ _ _ (d .before .before .is-pending .ensures (s .args .u)) (d .before .if1 .left) (d .through-of .ensures) (c .before .before .before .before .if2 .taken) (c .before .before .set-swept .ensures) in (swept-words (s .args .u) (s .args .reading .0) _ _ t (s .pre), t)
+returns-2 c = let d = c .before .before .before .before in let s = d .before .before .before .before .before in let t = sweep-same (s .args .u) (s .args .reading .0) (s .args .part .now) _ _ (d .before .before .is-pending .ensures (s .args .u)) (d .before .if1 .left) (d .through-of .ensures) (c .if2 .taken) in (swept-words (s .args .u) (s .args .reading .0) _ _ t (s .pre), t)
+
+set-swept-requires : tie.Need-set-swept-requires
+set-swept-requires c κs = search needs
+
+same-length-3 : tie.Need-same-length-3
+same-length-3 c = search needs
+
+returns-3 : tie.Need-returns-3
+returns-3 c = let d = c .before .before .before .before .before .before .before .before .before .before .before in let s = d .before .before .before .before .before in let t = sweep-back (s .args .u) (s .args .reading .0) (s .args .part .now) _ _ _ (d .before .before .is-pending .ensures (s .args .u)) (d .before .if1 .left) (d .through-of .ensures) (c .before .before .before .before .if3 .taken) (c .before .before .set-swept .ensures) in (swept-words (s .args .u) (s .args .reading .0) _ _ t (s .pre), t)
 
 -- src/sweeping.rt:52:43
-ring-of-requires : tie.Need-ring-of-requires
-ring-of-requires c κs = search needs
+rings-of-requires : tie.Need-rings-of-requires
+rings-of-requires c κs = search needs
 
 -- src/sweeping.rt:52:9
 sweep-from-requires : tie.Need-sweep-from-requires
@@ -56,12 +58,12 @@ sweep-rings-requires : tie.Need-sweep-rings-requires
 sweep-rings-requires c κs = search needs
 
 -- src/sweeping.rt:39:1
-same-length-3 : tie.Need-same-length-3
-same-length-3 c = search needs
+same-length-4 : tie.Need-same-length-4
+same-length-4 c = search needs
 
 -- src/sweeping.rt:39:1
-returns-3 : tie.Need-returns-3
-returns-3 c = let d = c .before .before .before .before .before .before .before .before .before .before in let s = d .before .before .before .before .before in let k = c .before .before .before .before in let t = sweep-on (s .args .u) (s .args .reading .0) (s .args .part .now) _ _ _ _ (d .before .before .is-pending .ensures (s .args .u)) (d .before .if1 .left) (d .through-of .ensures) (k .before .before .if2 .left) (rw (← k .before .ring-of .ensures) (k .sweep-from .ensures)) (c .before .before .sweep-rings .ensures) in (swept-words (s .args .u) (s .args .reading .0) _ _ t (s .pre), t)
+returns-4 : tie.Need-returns-4
+returns-4 c = let d = c .before .before .before .before .before .before .before .before .before .before .before .before .before in let s = d .before .before .before .before .before in let k = c .before .before .before .before in let t = sweep-on (s .args .u) (s .args .reading .0) (s .args .part .now) _ _ _ _ (d .before .before .is-pending .ensures (s .args .u)) (d .before .if1 .left) (d .through-of .ensures) (k .before .before .if3 .left) (rw (← k .before .rings-of .ensures .ring) (k .sweep-from .ensures)) (c .before .before .sweep-rings .ensures) in (swept-words (s .args .u) (s .args .reading .0) _ _ t (s .pre), t)
 
 pub sweep-spec : {M : Type 1} → statement M
 sweep-spec =
@@ -72,11 +74,13 @@ sweep-spec =
     returns
     through-of-requires
     slice-read-sweep-from
-    set-swept-requires
     same-length-2
     returns-2
-    ring-of-requires
+    set-swept-requires
+    same-length-3
+    returns-3
+    rings-of-requires
     sweep-from-requires
     sweep-rings-requires
-    same-length-3
-    returns-3)
+    same-length-4
+    returns-4)

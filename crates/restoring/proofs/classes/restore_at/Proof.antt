@@ -1,14 +1,11 @@
 use Rattle.model.specs.Dump.{words-of}
 use Rattle.restoring.proofs.Dumps.{found-acts}
-use Rattle.model.proofs.Words.{registers≤4}
-use native.Mathlib.Omega.{arith}
 use borrow.Author.Needs.{needs}
 use Rattle.restoring.proofs.classes.restore_at.Statement.{statement}
 use Rattle.restoring.proofs.classes.restore_at.Tie as tie
 use Rattle.restoring.proofs.classes.restore_at.Reads as reads
 use Rattle.restoring.proofs.classes.restore_at.Lts as lts
 use Rattle.dump.proofs.generation_at.Reads as generation-at-reads
-use Rattle.numbers.proofs.bounds.usable_in.Reads as usable-in-reads
 use Rattle.numbers.proofs.spans.second_of.Reads as second-of-reads
 use Rattle.restoring.proofs.holding.restore_generation.Reads as restore-generation-reads
 
@@ -16,17 +13,13 @@ use Rattle.restoring.proofs.holding.restore_generation.Reads as restore
 generation-at-requires : tie.Need-generation-at-requires
 generation-at-requires c κs = search needs
 
--- src/classes.rt:29:9
-usable-in-requires : tie.Need-usable-in-requires
-usable-in-requires c κs = let s = c .before .before .before .before in let k = registers≤4 (s .args .s) (s .pre .0 .0 .fit) in let h = s .pre .0 .1 in omega (arith, k)
-
 -- src/classes.rt:30:9
 second-of-requires : tie.Need-second-of-requires
 second-of-requires c κs = search needs
 
 -- src/classes.rt:37:9
 restore-generation-requires : tie.Need-restore-generation-requires
-restore-generation-requires c κs = let s = c .before .before .before .before .before .before .before in let g = c .before .before .before .before .generation-at .ensures in ((s .pre .0, record { second = rw (← (c .before .before .usable-in .ensures)) (c .before .second-of .ensures) }), (g .length, s .pre .1))
+restore-generation-requires c κs = let s = c .before .before .before .before .before .before .before in let g = c .before .before .before .before .generation-at .ensures in ((s .pre .0, record { second = rw (← s .pre .0 .1 .usable) (c .before .second-of .ensures) }), (g .length, s .pre .1))
 
 -- src/classes.rt:23:1
 same-length : tie.Need-same-length
@@ -41,7 +34,6 @@ restore-at-spec =
     tie.close
     (tie.spec
     generation-at-requires
-    usable-in-requires
     second-of-requires
     restore-generation-requires
     same-length

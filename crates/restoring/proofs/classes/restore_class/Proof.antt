@@ -9,10 +9,10 @@ use Rattle.dump.proofs.count_at.Reads as count-at-reads
 use Rattle.restoring.proofs.classes.restore_at.Reads as restore-at-reads
 
 abbrev Inv-loop : tie.InvT-loop
-Inv-loop run₀ s r class bytes from before left₀ at₀ whole₀ run left at whole = Walking s r class bytes from before run₀ run at left whole
+Inv-loop run₀ s r place class bytes from before left₀ at₀ whole₀ run left at whole = Walking s r class bytes from before run₀ run at left whole
 
 abbrev μ-loop : tie.MeasureT-loop
-μ-loop run₀ s r class bytes from before left₀ at₀ whole₀ run left at whole = left
+μ-loop run₀ s r place class bytes from before left₀ at₀ whole₀ run left at whole = left
 
 -- src/classes.rt:49:9
 count-at-requires : tie.Need-count-at-requires Inv-loop μ-loop

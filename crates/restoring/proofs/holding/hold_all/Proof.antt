@@ -14,10 +14,10 @@ use Rattle.dump.proofs.print_at.Reads as print-at-reads
 use Rattle.restoring.proofs.holding.hold_one.Reads as hold-one-reads
 
 abbrev Inv-loop : tie.InvT-loop
-Inv-loop run₀ s r h bytes at long draws₀ k₀ run draws k = Holds s r h bytes at run₀ run draws k
+Inv-loop run₀ s r place h bytes at long draws₀ k₀ run draws k = Holds s r h bytes at run₀ run draws k
 
 abbrev μ-loop : tie.MeasureT-loop
-μ-loop run₀ s r h bytes at long draws₀ k₀ run draws k = long - k
+μ-loop run₀ s r place h bytes at long draws₀ k₀ run draws k = long - k
 
 -- src/holding.rt:41:5
 loop-holds : tie.Need-loop-holds Inv-loop μ-loop

@@ -28,8 +28,8 @@ hold-requires : tie.Need-hold-requires
 hold-requires c κs = search needs
 
 -- src/holding.rt:29:16
-add-t14 : tie.Need-add-t14
-add-t14 c = search needs
+add-t15 : tie.Need-add-t15
+add-t15 c = search needs
 
 -- src/holding.rt:17:1
 same-length-2 : tie.Need-same-length-2
@@ -42,4 +42,4 @@ returns-2 c = let s = c .before .before .before .before .before .before .before 
 pub hold-one-spec : {M : Type 1} → statement M
 hold-one-spec =
     tie.close
-    (tie.spec draw-requires same-length returns hold-requires add-t14 same-length-2 returns-2)
+    (tie.spec draw-requires same-length returns hold-requires add-t15 same-length-2 returns-2)

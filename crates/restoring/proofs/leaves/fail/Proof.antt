@@ -6,11 +6,6 @@ use Rattle.restoring.proofs.leaves.fail.Tie as tie
 use Rattle.restoring.proofs.leaves.fail.Reads as reads
 use Rattle.restoring.proofs.leaves.fail.Lts as lts
 use Rattle.register.proofs.fail.Reads as fail-reads
-use Rattle.numbers.proofs.starts.place_of.Reads as place-of-reads
-
--- src/leaves.rt:82:9
-place-of-requires : tie.Need-place-of-requires
-place-of-requires c κs = search needs
 
 -- src/leaves.rt:87:20
 mul-fail : tie.Need-mul-fail
@@ -30,7 +25,7 @@ part-fail-end c = search needs
 
 -- src/leaves.rt:87:5
 fail-requires : tie.Need-fail-requires
-fail-requires c κs = let s = c .before .before .before .before in register-asks (s .args .s) (s .args .r) (s .pre .1) _ (c .before .before .place-of .ensures) (s .args .run .now) (s .pre .0)
+fail-requires c κs = let s = c .before .before .before in register-asks (s .args .s) (s .args .r) (s .pre .1 .below) _ (s .pre .1) (s .args .run .now) (s .pre .0)
 
 -- src/leaves.rt:78:1
 same-length : tie.Need-same-length
@@ -38,13 +33,12 @@ same-length c = search needs
 
 -- src/leaves.rt:78:1
 returns : tie.Need-returns
-returns c = let s = c .before .before .before .before .before .before .before in fail-acts (s .args .s) (s .args .r) (s .pre .1) _ (c .before .before .before .before .before .place-of .ensures) (s .args .run .now) _ (s .pre .0) (s .args .h) (c .before .before .fail .ensures .1)
+returns c = let s = c .before .before .before .before .before .before in fail-acts (s .args .s) (s .args .r) (s .pre .1 .below) _ (s .pre .1) (s .args .run .now) _ (s .pre .0) (s .args .h) (c .before .before .fail .ensures .1)
 
 pub fail-spec : {M : Type 1} → statement M
 fail-spec =
     tie.close
     (tie.spec
-    place-of-requires
     mul-fail
     sub-fail
     part-fail-start

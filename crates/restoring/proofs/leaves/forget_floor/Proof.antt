@@ -5,11 +5,6 @@ use Rattle.restoring.proofs.leaves.forget_floor.Tie as tie
 use Rattle.restoring.proofs.leaves.forget_floor.Reads as reads
 use Rattle.restoring.proofs.leaves.forget_floor.Lts as lts
 use Rattle.register.proofs.forget_floor.Reads as forget-floor-reads
-use Rattle.numbers.proofs.starts.place_of.Reads as place-of-reads
-
--- src/leaves.rt:106:9
-place-of-requires : tie.Need-place-of-requires
-place-of-requires c κs = search needs
 
 -- src/leaves.rt:109:28
 mul-forget-floor : tie.Need-mul-forget-floor
@@ -37,13 +32,12 @@ same-length c = search needs
 
 -- src/leaves.rt:102:1
 returns : tie.Need-returns
-returns c = let s = c .before .before .before .before .before .before in forget-acts (s .args .s) (s .args .r) (s .pre .1) _ (c .before .before .before .before .place-of .ensures) (s .args .run .now) _ (s .pre .0) (c .before .before .forget-floor .ensures)
+returns c = let s = c .before .before .before .before .before in forget-acts (s .args .s) (s .args .r) (s .pre .1 .below) _ (s .pre .1) (s .args .run .now) _ (s .pre .0) (c .before .before .forget-floor .ensures)
 
 pub forget-floor-spec : {M : Type 1} → statement M
 forget-floor-spec =
     tie.close
     (tie.spec
-    place-of-requires
     mul-forget-floor
     sub-forget-floor
     part-forget-floor-start

@@ -6,11 +6,6 @@ use Rattle.restoring.proofs.leaves.hold.Tie as tie
 use Rattle.restoring.proofs.leaves.hold.Reads as reads
 use Rattle.restoring.proofs.leaves.hold.Lts as lts
 use Rattle.restoring.proofs.leaves.hold_in.Reads as hold-in-reads
-use Rattle.numbers.proofs.starts.place_of.Reads as place-of-reads
-
--- src/leaves.rt:71:9
-place-of-requires : tie.Need-place-of-requires
-place-of-requires c κs = search needs
 
 -- src/leaves.rt:74:13
 mul-hold-in : tie.Need-mul-hold-in
@@ -30,7 +25,7 @@ part-hold-in-end c = search needs
 
 -- src/leaves.rt:74:5
 hold-in-requires : tie.Need-hold-in-requires
-hold-in-requires c κs = let s = c .before .before .before in register-asks (s .args .s) (s .args .r) (s .pre .1) _ (c .before .place-of .ensures) (s .args .run .now) (s .pre .0)
+hold-in-requires c κs = let s = c .before .before in register-asks (s .args .s) (s .args .r) (s .pre .1 .below) _ (s .pre .1) (s .args .run .now) (s .pre .0)
 
 -- src/leaves.rt:67:1
 same-length : tie.Need-same-length
@@ -38,13 +33,12 @@ same-length c = search needs
 
 -- src/leaves.rt:67:1
 returns : tie.Need-returns
-returns c = let l = c .before .before .before .before in let s = l .before .before in hold-acts (s .args .s) (s .args .r) (s .pre .1) _ (l .place-of .ensures) (s .args .run .now) _ (s .pre .0) (s .args .h) (s .args .fp) _ (c .before .before .hold-in .ensures)
+returns c = let s = c .before .before .before .before .before in hold-acts (s .args .s) (s .args .r) (s .pre .1 .below) _ (s .pre .1) (s .args .run .now) _ (s .pre .0) (s .args .h) (s .args .fp) _ (c .before .before .hold-in .ensures)
 
 pub hold-spec : {M : Type 1} → statement M
 hold-spec =
     tie.close
     (tie.spec
-    place-of-requires
     mul-hold-in
     sub-hold-in
     part-hold-in-start

@@ -5,11 +5,6 @@ use Rattle.restoring.proofs.leaves.raise_floor.Tie as tie
 use Rattle.restoring.proofs.leaves.raise_floor.Reads as reads
 use Rattle.restoring.proofs.leaves.raise_floor.Lts as lts
 use Rattle.register.proofs.raise_floor.Reads as raise-floor-reads
-use Rattle.numbers.proofs.starts.place_of.Reads as place-of-reads
-
--- src/leaves.rt:117:9
-place-of-requires : tie.Need-place-of-requires
-place-of-requires c κs = search needs
 
 -- src/leaves.rt:120:27
 mul-raise-floor : tie.Need-mul-raise-floor
@@ -37,13 +32,12 @@ same-length c = search needs
 
 -- src/leaves.rt:113:1
 returns : tie.Need-returns
-returns c = let s = c .before .before .before .before .before .before in raise-acts (s .args .s) (s .args .r) (s .pre .1) _ (c .before .before .before .before .place-of .ensures) (s .args .run .now) _ (s .pre .0) (s .args .stamp) (c .before .before .raise-floor .ensures)
+returns c = let s = c .before .before .before .before .before in raise-acts (s .args .s) (s .args .r) (s .pre .1 .below) _ (s .pre .1) (s .args .run .now) _ (s .pre .0) (s .args .stamp) (c .before .before .raise-floor .ensures)
 
 pub raise-floor-spec : {M : Type 1} → statement M
 raise-floor-spec =
     tie.close
     (tie.spec
-    place-of-requires
     mul-raise-floor
     sub-raise-floor
     part-raise-floor-start

@@ -5,11 +5,6 @@ use Rattle.restoring.proofs.leaves.raise_to_dumped.Tie as tie
 use Rattle.restoring.proofs.leaves.raise_to_dumped.Reads as reads
 use Rattle.restoring.proofs.leaves.raise_to_dumped.Lts as lts
 use Rattle.register.proofs.raise_to_dumped.Reads as raise-to-dumped-reads
-use Rattle.numbers.proofs.starts.place_of.Reads as place-of-reads
-
--- src/leaves.rt:95:9
-place-of-requires : tie.Need-place-of-requires
-place-of-requires c κs = search needs
 
 -- src/leaves.rt:98:31
 mul-raise-to-dumped : tie.Need-mul-raise-to-dumped
@@ -37,13 +32,12 @@ same-length c = search needs
 
 -- src/leaves.rt:91:1
 returns : tie.Need-returns
-returns c = let s = c .before .before .before .before .before .before in dumped-acts (s .args .s) (s .args .r) (s .pre .1) _ (c .before .before .before .before .place-of .ensures) (s .args .run .now) _ (s .pre .0) (s .args .floor) (c .before .before .raise-to-dumped .ensures)
+returns c = let s = c .before .before .before .before .before in dumped-acts (s .args .s) (s .args .r) (s .pre .1 .below) _ (s .pre .1) (s .args .run .now) _ (s .pre .0) (s .args .floor) (c .before .before .raise-to-dumped .ensures)
 
 pub raise-to-dumped-spec : {M : Type 1} → statement M
 raise-to-dumped-spec =
     tie.close
     (tie.spec
-    place-of-requires
     mul-raise-to-dumped
     sub-raise-to-dumped
     part-raise-to-dumped-start

@@ -7,9 +7,6 @@ use Rattle.taking.proofs.whole.judge.Tie as tie
 use Rattle.taking.proofs.whole.judge.Reads as reads
 use Rattle.taking.proofs.whole.judge.Lts as lts
 
-place-of-requires : tie.Need-place-of-requires
-place-of-requires c κs = search needs
-
 mul-judge : tie.Need-mul-judge
 mul-judge c = search needs
 
@@ -23,13 +20,13 @@ part-judge-end : tie.Need-part-judge-end
 part-judge-end c = search needs
 
 judge-requires : tie.Need-judge-requires
-judge-requires c κs = let s = c .before .before .before in register-asks (s .args .s) (s .args .r) (s .pre .1) _ (c .before .place-of .ensures) (s .args .run .now) (s .pre .0)
+judge-requires c κs = let s = c .before .before in register-asks (s .args .s) (s .args .r) (s .pre .1 .below) _ (s .pre .1) (s .args .run .now) (s .pre .0)
 
 same-length : tie.Need-same-length
 same-length c = search needs
 
 returns : tie.Need-returns
-returns c = let l = c .before .before .before .before in let s = l .before .before in let t = judge-turns (s .args .s) (s .args .r) (s .pre .1) _ (l .place-of .ensures) (s .args .run .now) (asked-by (s .args .ask)) _ _ (c .before .before .judge .ensures .1) in (judged-words (s .args .s) (s .args .r) (s .pre .1) (asked-by (s .args .ask)) (s .args .run .now) _ (s .pre .0) t, t)
+returns c = let s = c .before .before .before .before .before in let t = judge-turns (s .args .s) (s .args .r) (s .pre .1 .below) _ (s .pre .1) (s .args .run .now) (asked-by (s .args .ask)) _ _ (c .before .before .judge .ensures .1) in (judged-words (s .args .s) (s .args .r) (s .pre .1 .below) (asked-by (s .args .ask)) (s .args .run .now) _ (s .pre .0) t, t)
 
 pub judge-spec : {M : Type 1} → statement M
-judge-spec = tie.close (tie.spec place-of-requires mul-judge sub-judge part-judge-start part-judge-end judge-requires same-length returns)
+judge-spec = tie.close (tie.spec mul-judge sub-judge part-judge-start part-judge-end judge-requires same-length returns)

@@ -7,9 +7,6 @@ use Rattle.taking.proofs.whole.judge_batch.Tie as tie
 use Rattle.taking.proofs.whole.judge_batch.Reads as reads
 use Rattle.taking.proofs.whole.judge_batch.Lts as lts
 
-place-of-requires : tie.Need-place-of-requires
-place-of-requires c κs = search needs
-
 mul-judge-batch : tie.Need-mul-judge-batch
 mul-judge-batch c = search needs
 
@@ -23,13 +20,13 @@ part-judge-batch-end : tie.Need-part-judge-batch-end
 part-judge-batch-end c = search needs
 
 judge-batch-requires : tie.Need-judge-batch-requires
-judge-batch-requires c κs = let s = c .before .before .before in register-asks (s .args .s) (s .args .r) (s .pre .1) _ (c .before .place-of .ensures) (s .args .run .now) (s .pre .0)
+judge-batch-requires c κs = let s = c .before .before in register-asks (s .args .s) (s .args .r) (s .pre .1 .below) _ (s .pre .1) (s .args .run .now) (s .pre .0)
 
 same-length : tie.Need-same-length
 same-length c = search needs
 
 returns : tie.Need-returns
-returns c = let l = c .before .before .before .before in let s = l .before .before in let t = batch-turns (s .args .s) (s .args .r) (s .pre .1) _ (l .place-of .ensures) (s .args .run .now) (asked-by (s .args .ask)) _ _ (c .before .before .judge-batch .ensures .1) in (batch-words (s .args .s) (s .args .r) (s .pre .1) (asked-by (s .args .ask)) (s .args .run .now) _ (s .pre .0) t, t)
+returns c = let s = c .before .before .before .before .before in let t = batch-turns (s .args .s) (s .args .r) (s .pre .1 .below) _ (s .pre .1) (s .args .run .now) (asked-by (s .args .ask)) _ _ (c .before .before .judge-batch .ensures .1) in (batch-words (s .args .s) (s .args .r) (s .pre .1 .below) (asked-by (s .args .ask)) (s .args .run .now) _ (s .pre .0) t, t)
 
 pub judge-batch-spec : {M : Type 1} → statement M
-judge-batch-spec = tie.close (tie.spec place-of-requires mul-judge-batch sub-judge-batch part-judge-batch-start part-judge-batch-end judge-batch-requires same-length returns)
+judge-batch-spec = tie.close (tie.spec mul-judge-batch sub-judge-batch part-judge-batch-start part-judge-batch-end judge-batch-requires same-length returns)

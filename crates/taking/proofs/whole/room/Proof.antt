@@ -6,9 +6,6 @@ use Rattle.taking.proofs.whole.room.Tie as tie
 use Rattle.taking.proofs.whole.room.Reads as reads
 use Rattle.taking.proofs.whole.room.Lts as lts
 
-place-of-requires : tie.Need-place-of-requires
-place-of-requires c κs = search needs
-
 class-of-requires : tie.Need-class-of-requires
 class-of-requires c κs = search needs
 
@@ -25,10 +22,10 @@ part-room-end : tie.Need-part-room-end
 part-room-end c = search needs
 
 room-requires : tie.Need-room-requires
-room-requires c κs = let l = c .before .before .before in let s = l .before .before in (s .pre .1 .print, register-asks (s .args .s) (s .args .r) (s .pre .0 .1) _ (l .place-of .ensures) (s .args .run .now) (s .pre .0 .0))
+room-requires c κs = let s = c .before .before .before .before in (s .pre .1 .print, register-asks (s .args .s) (s .args .r) (s .pre .0 .1 .below) _ (s .pre .0 .1) (s .args .run .now) (s .pre .0 .0))
 
 returns : tie.Need-returns
-returns c = let l = c .before .before .before .before in let s = l .before .before in room-reads (s .args .s) (s .args .r) (s .pre .0 .1) _ (l .place-of .ensures) (s .args .run .now) (s .args .ticket) _ (c .before .before .before .class-of .ensures) _ (c .room .ensures)
+returns c = let s = c .before .before .before .before .before in room-reads (s .args .s) (s .args .r) (s .pre .0 .1 .below) _ (s .pre .0 .1) (s .args .run .now) (s .args .ticket) _ (c .before .before .before .class-of .ensures) _ (c .room .ensures)
 
 pub room-spec : {M : Type 1} → statement M
-room-spec = tie.close (tie.spec place-of-requires class-of-requires mul-room sub-room part-room-start part-room-end room-requires returns)
+room-spec = tie.close (tie.spec class-of-requires mul-room sub-room part-room-start part-room-end room-requires returns)

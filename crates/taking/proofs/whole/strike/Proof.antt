@@ -6,9 +6,6 @@ use Rattle.taking.proofs.whole.strike.Tie as tie
 use Rattle.taking.proofs.whole.strike.Reads as reads
 use Rattle.taking.proofs.whole.strike.Lts as lts
 
-place-of-requires : tie.Need-place-of-requires
-place-of-requires c κs = search needs
-
 class-of-requires : tie.Need-class-of-requires
 class-of-requires c κs = search needs
 
@@ -25,13 +22,13 @@ part-strike-end : tie.Need-part-strike-end
 part-strike-end c = search needs
 
 strike-requires : tie.Need-strike-requires
-strike-requires c κs = let l = c .before .before .before in let s = l .before .before in ((s .pre .0 .1 .print, register-asks (s .args .s) (s .args .r) (s .pre .0 .0 .1) _ (l .place-of .ensures) (s .args .run .now) (s .pre .0 .0 .0)), strike-asks (s .args .s) (s .args .r) (s .pre .0 .0 .1) _ (l .place-of .ensures) (s .args .run .now) (s .args .ticket) _ (c .before .before .class-of .ensures) _ (s .pre .0 .0 .0) (s .pre .1))
+strike-requires c κs = let s = c .before .before .before .before in ((s .pre .0 .1 .print, register-asks (s .args .s) (s .args .r) (s .pre .0 .0 .1 .below) _ (s .pre .0 .0 .1) (s .args .run .now) (s .pre .0 .0 .0)), strike-asks (s .args .s) (s .args .r) (s .pre .0 .0 .1 .below) _ (s .pre .0 .0 .1) (s .args .run .now) (s .args .ticket) _ (c .before .before .class-of .ensures) _ (s .pre .0 .0 .0) (s .pre .1))
 
 same-length : tie.Need-same-length
 same-length c = search needs
 
 returns : tie.Need-returns
-returns c = let l = c .before .before .before .before .before .before in let s = l .before .before in strike-turns (s .args .s) (s .args .r) (s .pre .0 .0 .1) _ (l .place-of .ensures) (s .args .run .now) (s .args .ticket) _ (c .before .before .before .before .before .class-of .ensures) _ (c .before .before .strike .ensures)
+returns c = let s = c .before .before .before .before .before .before .before in strike-turns (s .args .s) (s .args .r) (s .pre .0 .0 .1 .below) _ (s .pre .0 .0 .1) (s .args .run .now) (s .args .ticket) _ (c .before .before .before .before .before .class-of .ensures) _ (c .before .before .strike .ensures)
 
 pub strike-spec : {M : Type 1} → statement M
-strike-spec = tie.close (tie.spec place-of-requires class-of-requires mul-strike sub-strike part-strike-start part-strike-end strike-requires same-length returns)
+strike-spec = tie.close (tie.spec class-of-requires mul-strike sub-strike part-strike-start part-strike-end strike-requires same-length returns)

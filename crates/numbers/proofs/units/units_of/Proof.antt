@@ -2,8 +2,8 @@ use native.Mathlib.Omega.{arith}
 use Rattle.model.specs.Book.{place-units}
 use borrow.Author.Tests.{ne-eqb}
 use borrow.Author.Needs.{needs}
-use Rattle.audit.proofs.place.units_of.Statement.{statement}
-use Rattle.audit.proofs.place.units_of.Tie as tie
+use Rattle.numbers.proofs.units.units_of.Statement.{statement}
+use Rattle.numbers.proofs.units.units_of.Tie as tie
 
 returns : tie.Need-returns
 unfolding place-units

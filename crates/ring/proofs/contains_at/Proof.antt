@@ -2,11 +2,8 @@ use mathlib.Core.Path.{refl}
 use borrow.Author.Needs.{needs}
 use Rattle.ring.proofs.Finding.{holds-reads}
 use Rattle.ring.proofs.Positions.{place-bounded, bucket-reads}
-use Rattle.ring.proofs.contains.Statement.{statement}
-use Rattle.ring.proofs.contains.Tie as tie
-
-position-requires : tie.Need-position-requires
-position-requires c κs = search needs
+use Rattle.ring.proofs.contains_at.Statement.{statement}
+use Rattle.ring.proofs.contains_at.Tie as tie
 
 start-of-requires : tie.Need-start-of-requires
 start-of-requires c κs = search needs
@@ -31,22 +28,21 @@ part-contains-in-end c = search needs
 
 contains-in-requires : tie.Need-contains-in-requires
 contains-in-requires c κs =
-    let s = c .before .before .before .before in
-    let h = c .before .before .position .ensures .below in
-    (s .pre .0, place-bounded _ _ _ h _ _ (c .before .start-of .ensures) refl (s .args .words .now) (s .pre .1))
+    let s = c .before .before .before in
+    let p = s .pre in
+    (p .0 .0, place-bounded _ _ _ (p .1 .below) _ _ (c .before .start-of .ensures) refl (s .args .words .now) (p .0 .1))
 
 returns : tie.Need-returns
 returns c =
-    let p = c .before .before .before .position .ensures in
-    let a = c .before .before .before .before .before .args in
-    let t = c .contains-in .ensures (a .slots) (a .ring) _ in
+    let s = c .before .before .before .before in
+    let p = s .pre .1 in
+    let t = c .contains-in .ensures (s .args .slots) (s .args .ring) _ in
     holds-reads _ _ _ _ (bucket-reads _ _ _ (p .below) _ _ (c .before .before .start-of .ensures) refl _ (p .is) t)
 
-pub contains-spec : {M : Type 1} → statement M
-contains-spec =
+pub contains-at-spec : {M : Type 1} → statement M
+contains-at-spec =
     tie.close
     (tie.spec
-    position-requires
     start-of-requires
     add-e
     add-e-2

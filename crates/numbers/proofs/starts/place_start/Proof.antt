@@ -1,0 +1,29 @@
+use Rattle.numbers.proofs.Placing.{places-few}
+use Prim.Native.Nat.{ℕ, _+_, _*_}
+use mathlib.Core.Path.{ap}
+use native.Mathlib.Omega.{arith}
+use borrow.Author.Needs.{needs}
+use Rattle.numbers.proofs.starts.place_start.Statement.{statement}
+use Rattle.numbers.proofs.starts.place_start.Tie as tie
+use Rattle.numbers.proofs.starts.place_start.Reads as reads
+use Rattle.numbers.proofs.starts.place_start.Lts as lts
+use Rattle.numbers.proofs.starts.place_width.Reads as place-width-reads
+
+-- src/starts.rt:45:9
+place-width-requires : tie.Need-place-width-requires
+place-width-requires c κs = search needs
+
+-- src/starts.rt:46:9
+mul-result : tie.Need-mul-result
+mul-result c = let k = places-few (c .before .args .i) _ (c .before .pre .1) (c .place-width .ensures .1) in omega arith
+
+-- src/starts.rt:46:5
+add-result : tie.Need-add-result
+add-result c = let k = places-few (c .before .args .i) _ (c .before .pre .1) (c .place-width .ensures .1) in omega arith
+
+-- src/starts.rt:41:1
+returns : tie.Need-returns
+returns c = let k = places-few (c .before .args .i) _ (c .before .pre .1) (c .place-width .ensures .1) in (ap (λ (n : ℕ). 4 + (c .before .args .i) * n) (c .place-width .ensures .0), omega arith)
+
+pub place-start-spec : {M : Type 1} → statement M
+place-start-spec = tie.close (tie.spec place-width-requires mul-result add-result returns)
