@@ -5,9 +5,9 @@ use model::Class;
 use model::Shares;
 use numbers::starts;
 ghost use mathlib.Core.Path.{_≡_};
-ghost use Prim.Native.Nat.{_*_, _≤_};
+ghost use Prim.Native.Nat.{_≤_};
 ghost use Rattle.model.specs.BookWords.{read-who, has-place, distinct as distinct-rule};
-ghost use Rattle.audit.specs.Spot.{Few, Within, read-from};
+ghost use Rattle.audit.specs.Spot.{Within, read-from};
 
 // Whether a used place from place `from` on has the deliverer of that kind and number.
 fn has_from(body: &[u64], shares: Shares, class: Class, from: usize, kind: u64, number: u64) -> bool

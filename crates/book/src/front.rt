@@ -1,5 +1,4 @@
 // The book's words in the front of the lent words: the five limits and the closed flag.
-ghost use mathlib.Core.Path.{_≡_};
 ghost use Prim.Native.Nat.{_≤_};
 ghost use lib.ListN.{length};
 ghost use Rattle.runs.specs.Turns.{Turns, Reads};

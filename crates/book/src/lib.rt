@@ -7,10 +7,10 @@ pub mod moves;
 pub mod place;
 pub mod totals;
 
-ghost use Prim.Native.Nat.{_+_, _*_, _≤_, _<_};
+ghost use Prim.Native.Nat.{_+_, _≤_, _<_};
 ghost use mathlib.Core.Path.{_≡_};
 ghost use mathlib.Core.Bool.{true};
-ghost use lib.ListN.{length, getD};
+ghost use lib.ListN.{length};
 ghost use Rattle.model.specs.declared.Shares.{Shares};
 ghost use Rattle.model.specs.declared.Class.{Class};
 ghost use Rattle.model.specs.Settings.{limits-fit};

@@ -3,13 +3,9 @@ use Prim.Native.Nat.{ℕ, _≤_}
 use mathlib.Core.Path.{_≡_}
 use mathlib.Core.List.{List, [], _∷_}
 use lib.ListN.{length}
-use Rattle.calls_text.specs.declared.call.Form.{Form}
 use Rattle.calls_text.specs.declared.call.Form.the-variants.{Judge, Take, JudgeBatch, TakeBatch}
-use Rattle.calls_text.specs.declared.call.Look.{Look}
 use Rattle.calls_text.specs.declared.call.Look.the-variants.{ContainsHash, Floor, Pending, Swept, Held, Class}
-use Rattle.calls_text.specs.declared.call.Act.{Act}
 use Rattle.calls_text.specs.declared.call.Act.the-variants.{Begin, Expire, Sweep, Limits, Close}
-use Rattle.calls_text.specs.declared.call.Move.{Move}
 use Rattle.calls_text.specs.declared.call.Move.the-variants.{Dump, Restore, Resume}
 use Rattle.calls_text.specs.declared.call.Name.{Name}
 use Rattle.calls_text.specs.declared.call.Name.the-variants.{Open, Settings, Lend, Poke, Asks, Looks, Acts, Moves, Unknown}

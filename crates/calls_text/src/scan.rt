@@ -1,8 +1,7 @@
 // Blanks and words, and where a line's call ends.
 ghost use mathlib.Core.Path.{_≡_};
-ghost use mathlib.Core.Bool.{true};
-ghost use Prim.Native.Nat.{ℕ, _+_, _≤_, _<_};
-ghost use lib.ListN.{length, getD};
+ghost use Prim.Native.Nat.{_+_, _≤_, _<_};
+ghost use lib.ListN.{length};
 ghost use Rattle.calls_text.specs.Scan.{isBlank, notBlank, Stops, arrowAt, Arrow};
 
 // Whether a byte parts words: a blank, or one of the codes 9 to 13, a tab among them.

@@ -1,8 +1,8 @@
 -- Of the words of a well-formed register, what the code writes is the model's dump, and its length that of the model's.
-use Prim.Native.Nat.{ℕ, zero, suc, _+_, _-_, _*_, _≤_}
+use Prim.Native.Nat.{ℕ, suc, _+_, _*_, _≤_}
 use native.Mathlib.Nat.{mul-le-mul}
 use native.Mathlib.Omega.{arith}
-use mathlib.Core.Path.{_≡_, refl, ap, sym, _∙_}
+use mathlib.Core.Path.{_≡_, refl, ap, _∙_}
 use mathlib.Core.List.{List, [], _∷_, _++_}
 use mathlib.Core.Option.{Option, none, some}
 use lib.Dec.{eqb}
@@ -17,8 +17,8 @@ use Rattle.model.specs.Settings.{ring-of}
 use Rattle.model.specs.Register.{Register}
 use Rattle.model.specs.RegisterWords.{floor-flag, floor-word, heading-width, encode-heading, of-register, register-form}
 use Rattle.model.specs.Generation.{Generation, count}
-use Rattle.model.specs.GenerationWords.{encode-generation, live-slots, GenerationOk}
-use Rattle.model.specs.Dump.{word-bytes, dumped-floor, fingerprints, held-generations, generations-words, class-words, dump-words, dump-bytes}
+use Rattle.model.specs.GenerationWords.{encode-generation, GenerationOk}
+use Rattle.model.specs.Dump.{word-bytes, dumped-floor, held-generations, generations-words, class-words, dump-words, dump-bytes}
 use Rattle.model.proofs.BytesRead.{bytes-long}
 use Rattle.model.proofs.GenerationWords.{generation-wide, live-pad}
 use Rattle.model.proofs.DumpRead.{prints-length}

@@ -3,16 +3,15 @@ use Prim.Native.Nat.{ℕ, zero, suc, _+_, _-_, _*_, _<_, _≤_}
 use native.Mathlib.Nat.{suc-mul}
 use native.Mathlib.Numerals.{add-one}
 use native.Mathlib.Omega.{arith}
-use mathlib.Core.Path.{_≡_, refl, ap, sym, subst, _∙_}
+use mathlib.Core.Path.{_≡_, refl, sym, subst, _∙_}
 use mathlib.Core.Bool.{cond}
 use mathlib.Core.List.{List, [], _∷_, _++_}
 use lib.Dec.{eqb}
 use lib.ListN.{length, getD, take, drop, drop-of-length-le}
-use lib.Seq.{drop-cons, drop-drop, getD-drop, getD-take}
+use lib.Seq.{drop-cons, drop-drop, getD-drop}
 use borrow.Author.Tests.{eq-eqb, ne-eqb}
 use borrow.Rule.Slice.PartMut.{midOf}
 use Rattle.runs.proofs.Cases.{by-test}
-use Rattle.model.specs.GenerationWords.{live-slots}
 use Rattle.model.specs.RegisterWords.{heading-width}
 use Rattle.model.specs.Numbers.{top64, cap64}
 use Rattle.model.specs.Dump.{word-bytes, dumped-floor, fingerprints}

@@ -1,7 +1,7 @@
 -- The number at a byte position, and words by their positions in the bytes.
 use Prim.Native.Nat.{ℕ, zero, suc, _+_, _/_, _*_, _<_, _≤_}
 use native.Mathlib.Omega.{arith}
-use mathlib.Core.Path.{_≡_, refl, ap, sym, _∙_}
+use mathlib.Core.Path.{_≡_, refl, ap, sym}
 use mathlib.Core.List.{List}
 use lib.ListN.{length, getD, take, drop}
 use lib.Seq.{drop-drop}

@@ -1,20 +1,19 @@
 -- What a restore stands on after the lengths have been read: where each class starts and ends (`whole`), one generation after the
 -- other (`walk-next`, `walk-done`), and one fingerprint after the other (`prints-next`, `prints-end`).
-use Prim.Native.Nat.{ℕ, suc, _+_, _-_, _/_, _<_, _≤_}
+use Prim.Native.Nat.{ℕ, _+_, _-_, _/_, _<_, _≤_}
 use native.Mathlib.Numerals.{add-one}
 use native.Mathlib.Omega.{arith}
 use mathlib.Core.Path.{_≡_, refl, sym, _∙_}
-use mathlib.Core.Bool.{cond}
 use mathlib.Core.List.{List, [], _∷_}
 use mathlib.Core.Option.{none}
 use lib.Dec.{leb}
-use lib.ListN.{length, getD, take, drop, length-drop, drop-of-length-le}
+use lib.ListN.{length, getD, drop, length-drop, drop-of-length-le}
 use lib.Seq.{drop-cons, getD-take, getD-drop, length-take-le}
 use borrow.Author.Tests.{leb-true}
 use Rattle.runs.proofs.Cases.{by-test, no}
 use Rattle.model.specs.Dump.{words-of, read-dump}
 use Rattle.dump.specs.declared.walk.Lengths.the-variants.{Cut, Read}
-use Rattle.dump.specs.Walk.{length-at, dumped-at, next-at, dumped-from, end-from, class-end, peers-at, own-at, dump-end, dump-at, lengths-of, Walks, Steps, ClassWalks, Whole}
+use Rattle.dump.specs.Walk.{length-at, dumped-at, next-at, dumped-from, end-from, class-end, peers-at, own-at, dump-end, lengths-of, Walks, Steps, ClassWalks, Whole}
 use Rattle.dump.proofs.Reading.{words-long}
 use Rattle.dump.proofs.Walking.{end-next, dumped-next, end-after, class-after, words-read}
 use Rattle.dump.proofs.Passing.{lengths-are}

@@ -8,7 +8,6 @@ use mathlib.Core.List.{List, [], _∷_}
 use mathlib.Core.Option.{Option, none, some}
 use lib.Dec.{leb}
 use lib.ListN.{length, getD, take, drop}
-use Rattle.model.specs.Class.{Each}
 use Rattle.model.specs.Dump.{Dumped, Dump, words-of, read-dump}
 use Rattle.dump.specs.declared.walk.Passed.{Passed}
 use Rattle.dump.specs.declared.walk.Passed.the-variants.{Short, To}

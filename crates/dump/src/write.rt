@@ -2,9 +2,8 @@
 use crate::octets::put_word;
 use generation::Generation;
 ghost use mathlib.Core.Path.{_≡_};
-ghost use mathlib.Core.List.{[], _∷_, _++_};
-ghost use Prim.Native.Nat.{_+_, _*_, _≤_, _<_};
-ghost use lib.ListN.{length, getD};
+ghost use mathlib.Core.List.{[], _∷_};
+ghost use Prim.Native.Nat.{_+_, _*_, _<_};
 ghost use Rattle.model.specs.Dump.{fingerprints};
 ghost use Rattle.generation.specs.Words.{Bounded};
 ghost use Rattle.dump.specs.Bytes.{Fits, Puts};

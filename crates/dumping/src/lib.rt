@@ -1,8 +1,6 @@
 // The dump of one register, from its own part of the lent words.
 use model::Usable;
 use numbers::spans;
-ghost use mathlib.Core.Path.{_≡_};
-ghost use Prim.Native.Nat.{_≤_};
 ghost use lib.ListN.{length};
 ghost use Rattle.model.specs.Dump.{dump-bytes};
 ghost use Rattle.register.specs.Words.{RegisterWords, RegisterReads};

@@ -1,6 +1,6 @@
 // The expiry of one class of the share book, in the class's own part of the lent words: pairs with seconds before a given one
 // go, a place that has none left goes too, and later places close up behind those kept.
-ghost use Prim.Native.Nat.{_+_, _*_, _≤_};
+ghost use Prim.Native.Nat.{_+_, _≤_};
 ghost use mathlib.Core.Path.{_≡_};
 ghost use lib.ListN.{length, getD};
 ghost use Rattle.model.specs.Numbers.{top32};

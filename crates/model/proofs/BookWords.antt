@@ -1,10 +1,10 @@
 -- The share book's words: a place and a class are exact, that is, sound words are exactly those of a well-formed place or class.
-use Prim.Native.Nat.{ℕ, zero, suc, _+_, _-_, _*_, _≤_}
+use Prim.Native.Nat.{ℕ, zero, suc, _*_, _≤_}
 use native.Mathlib.Omega.{arith}
-use mathlib.Core.Path.{_≡_, refl, ap, ap₂, sym, subst, _∙_}
-use mathlib.Core.Bool.{Bool, true, false, cond, not, _&&_, _||_}
+use mathlib.Core.Path.{_≡_, refl, ap, sym}
+use mathlib.Core.Bool.{true, _&&_}
 use mathlib.Core.List.{List, [], _∷_, _++_}
-use lib.ListN.{length, getD, take, drop, replicate, length-append, length-drop, getD-replicate}
+use lib.ListN.{length, getD, drop, length-append, length-drop, getD-replicate}
 use lib.Seq.{drop-at}
 use lib.Dec.{eqb, leb}
 use borrow.Author.Tests.{eq-eqb, ne-eqb, le-leb, leb-true, eqb-true}
@@ -13,16 +13,16 @@ use Rattle.model.specs.declared.Class.the-variants.{Feeders, Peers, Own}
 use Rattle.model.specs.declared.Deliverer.{Deliverer}
 use Rattle.model.specs.declared.Deliverer.the-variants.{Feeder, Peer, Relay, Restored}
 use Rattle.model.specs.declared.Shares.{Shares}
-use Rattle.runs.specs.Form.{Form, Exact}
+use Rattle.runs.specs.Form.{Exact}
 use Rattle.runs.specs.Chunks.{flat}
-use Rattle.runs.specs.Combine.{Both, both, upTo, such, led, seen-as, Marks}
-use Rattle.runs.proofs.Cases.{by-test, each-true, all-true, no}
+use Rattle.runs.specs.Combine.{both, upTo, seen-as, Marks}
+use Rattle.runs.proofs.Cases.{by-test, each-true, no}
 use Rattle.runs.proofs.Chunks.{length-flat}
 use Rattle.runs.proofs.Exact.{both-exact, up-exact, such-exact, led-exact, seen-exact}
 use Rattle.model.specs.Numbers.{top32}
 use Rattle.model.specs.Class.{class-number, class-of, kind-of, same-class}
-use Rattle.model.specs.Book.{Pair, Place, Held, total, entries}
-use Rattle.model.specs.BookWords.{most-entries, pair-words, read-pairs, pairs-sound, number-word, read-who, read-mark, kind-sound, place-width, encode-place, read-place, counts-sound, place-sound, PlaceOk, place-form, used-place, places-rule, places-form, expired-form, totals-words, held-of, of-held, class-form}
+use Rattle.model.specs.Book.{Pair, Place, total, entries}
+use Rattle.model.specs.BookWords.{most-entries, pair-words, read-pairs, pairs-sound, number-word, read-who, read-mark, kind-sound, place-width, encode-place, read-place, place-sound, PlaceOk, place-form, used-place, places-rule, places-form, expired-form, totals-words, held-of, of-held, class-form}
 
 -- ---- pairs in words: as many as are read, read back as they were written, and nothing after them is touched
 pub length-read : (n : ℕ) (ws : List ℕ) → length (read-pairs n ws) ≡ n

@@ -12,7 +12,6 @@ use Rattle.model.specs.declared.Settings.{Settings}
 use Rattle.model.specs.declared.Verdict.{Verdict}
 use Rattle.model.specs.declared.Verdict.the-variants.{New}
 use Rattle.model.specs.declared.Answer.the-variants.{Said}
-use Rattle.runs.specs.Form.{Form}
 use Rattle.runs.proofs.Cases.{by-test, no}
 use Rattle.model.specs.Settings.{usable-at}
 use Rattle.model.specs.Generation.{as-read}

@@ -1,30 +1,27 @@
 -- What holds instead of each misreading.
-use Prim.Native.Nat.{ℕ, zero, suc, _+_, _-_, _*_, _<_, _≤_, min, max}
+use Prim.Native.Nat.{ℕ, zero, suc, _+_, _-_, _<_, max}
 use native.Mathlib.Nat.{zero-mul}
 use native.Mathlib.Omega.{arith}
-use mathlib.Core.Path.{_≡_, refl, sym, _∙_, ap}
-use mathlib.Core.Bool.{Bool, true, false, cond}
+use mathlib.Core.Path.{_≡_, refl}
 use mathlib.Core.List.{List, [], _∷_}
-use mathlib.Core.Option.{Option, none, some}
+use mathlib.Core.Option.{Option, some}
 use lib.Dec.{leb, ltb}
 use lib.ListN.{length, getD}
 use borrow.Author.Tests.{le-leb}
 use Rattle.model.specs.declared.Class.{Class}
 use Rattle.model.specs.declared.Class.the-variants.{Feeders, Peers, Own}
 use Rattle.model.specs.declared.Settings.{Settings}
-use Rattle.model.specs.declared.Usable.{Usable}
 use Rattle.runs.proofs.Cases.{by-test}
 use Rattle.model.specs.Numbers.{compute-numbers, raise, cap64, ceil, cap32}
 use Rattle.model.specs.Settings.{compute-settings, usable-at, ring-of}
-use Rattle.model.specs.Class.{compute-class, pick}
-use Rattle.model.specs.Generation.{Generation, compute-generation}
-use Rattle.model.specs.Book.{Place, Held, Book, compute-book, places-of, expire-class, expire}
-use Rattle.model.specs.Register.{Ring, Register, Swept, compute-register, generation-at, passed, visit, visits, sweep-ring, sweep-rings, swept-to, through-of, sweep, published}
+use Rattle.model.specs.Class.{compute-class}
+use Rattle.model.specs.Generation.{compute-generation}
+use Rattle.model.specs.Book.{Held, compute-book, places-of, expire-class, expire}
+use Rattle.model.specs.Register.{Ring, Register, Swept, compute-register, generation-at, passed, visit, visits, sweep-ring, sweep-rings, through-of, sweep, published}
 use Rattle.model.specs.Judge.{compute-judge, verdict}
 use Rattle.model.specs.Dump.{compute-dump}
 use Rattle.model.specs.Codes.{compute-codes}
-use Rattle.model.specs.Words.{State}
-use Rattle.model.specs.Calls.{compute-calls, Expire, step, no-register, register-at, least-published}
+use Rattle.model.specs.Calls.{compute-calls, step, no-register, least-published}
 use Rattle.model.specs.Worked.{serve, last}
 use Rattle.model.specs.Misreadings.{HeldIsDuplicate, NoLower, FloorStands, dumped-first, dumped-again, SlotOrderMayDiffer, UnsweptKeeps}
 

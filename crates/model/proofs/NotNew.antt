@@ -8,7 +8,6 @@ use borrow.Author.Tests.{eqb-true}
 use Rattle.model.specs.declared.Settings.{Settings}
 use Rattle.model.specs.declared.Verdict.the-variants.{New}
 use Rattle.model.specs.declared.Answer.the-variants.{Said}
-use Rattle.runs.specs.Form.{Form}
 use Rattle.runs.proofs.Cases.{by-test}
 use Rattle.model.specs.Settings.{settings-of, usable-at, words-needed}
 use Rattle.model.specs.Book.{Book}

@@ -9,7 +9,6 @@ use lib.ListN.{replicate}
 use Rattle.model.specs.declared.Class.the-variants.{Feeders}
 use Rattle.model.specs.declared.Verdict.the-variants.{New, Duplicate, Late}
 use Rattle.model.specs.declared.Answer.the-variants.{Refused, Done, Said}
-use Rattle.runs.specs.Form.{Form}
 use Rattle.runs.specs.Words.{zeros, sameWords, pad}
 use Rattle.runs.specs.Chunks.{flat}
 use Rattle.runs.specs.Combine.{wideRow, encRow, readRow, testRow, encUp, readUp, testUp}

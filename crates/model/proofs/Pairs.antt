@@ -1,13 +1,13 @@
 -- A place's pairs as a list: what a draw, a return and an expiry make of them. No word is spoken of here.
-use Prim.Native.Nat.{ℕ, zero, suc, _+_, _-_, _*_, _≤_, _<_}
+use Prim.Native.Nat.{ℕ, suc, _-_, _≤_, _<_}
 use native.Mathlib.Omega.{arith}
-use mathlib.Core.Path.{_≡_, refl, ap, sym, _∙_}
-use mathlib.Core.Bool.{Bool, true, false, cond, not, _&&_, _||_}
-use mathlib.Core.List.{List, [], _∷_, _++_}
+use mathlib.Core.Path.{_≡_, refl, ap}
+use mathlib.Core.Bool.{true, false, _&&_}
+use mathlib.Core.List.{List, [], _∷_}
 use lib.ListN.{length}
 use lib.Dec.{leb, ltb, eqb}
-use borrow.Author.Tests.{eq-eqb, ne-eqb, le-leb, lt-leb, le-ltb, leb-true, leb-false, ltb-true, ltb-false, eqb-true, eqb-false}
-use Rattle.runs.proofs.Cases.{by-test, split-if, each-true, all-true, both-true, no}
+use borrow.Author.Tests.{eq-eqb, ne-eqb, le-leb, lt-leb, leb-true, leb-false, ltb-true, ltb-false, eqb-false}
+use Rattle.runs.proofs.Cases.{by-test, each-true, both-true, no}
 use Rattle.model.specs.Numbers.{top32}
 use Rattle.model.specs.Book.{Pair, total, listed, add-pair, lower-pair, later-pairs}
 use Rattle.model.specs.BookWords.{pairs-sound}

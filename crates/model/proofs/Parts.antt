@@ -1,25 +1,24 @@
 -- Where each part lies in the whole run of words, and that it is put back there: the front, a class's share book, a register, a class's ring.
-use Prim.Native.Nat.{ℕ, zero, suc, _+_, _-_, _*_, _<_, _≤_}
-use native.Mathlib.Nat.{zero-mul, suc-mul, mul-assoc}
+use Prim.Native.Nat.{ℕ, zero, suc, _*_, _<_}
+use native.Mathlib.Nat.{zero-mul, suc-mul}
 use native.Mathlib.Omega.{arith}
-use mathlib.Core.Path.{_≡_, refl, sym, _∙_, ap, subst}
+use mathlib.Core.Path.{_≡_, refl, sym, subst}
 use mathlib.Core.List.{List}
-use lib.ListN.{getD, set}
 use Rattle.model.specs.declared.Class.{Class}
 use Rattle.model.specs.declared.Class.the-variants.{Feeders, Peers, Own}
 use Rattle.model.specs.declared.Usable.{Usable}
 use Rattle.model.specs.declared.Settings.{Settings}
 use Rattle.runs.specs.Form.{Form, Exact}
-use Rattle.runs.specs.Combine.{Both, both, row, wideRow, free}
+use Rattle.runs.specs.Combine.{Both, both, wideRow, free}
 use Rattle.runs.proofs.Exact.{both-exact, free-exact}
-use Rattle.runs.proofs.Parts.{Lies, Part, head-part, body-part, row-part, seen-part, in-part}
-use Rattle.model.specs.Settings.{usable-at, ring-of}
-use Rattle.model.specs.Class.{class-number, Each, pick, swap}
+use Rattle.runs.proofs.Parts.{Part, head-part, body-part, row-part, seen-part, in-part}
+use Rattle.model.specs.Settings.{usable-at}
+use Rattle.model.specs.Class.{class-number, pick, swap}
 use Rattle.model.specs.Book.{Held}
-use Rattle.model.specs.Register.{Ring, Register}
+use Rattle.model.specs.Register.{Register}
 use Rattle.model.specs.BookWords.{class-form}
-use Rattle.model.specs.RegisterWords.{each-of, of-each, each-form, Heading, heading-form, heading-width, ring-form, register-of, of-register, register-form}
-use Rattle.model.specs.Words.{State, Front, front-form, front-width, book-form, registers-form, unused-width, state-of, of-state, state-form, class-width, class-start, ring-width, register-width, ring-start, after-registers, register-start}
+use Rattle.model.specs.RegisterWords.{each-of, of-each, each-form, heading-form, ring-form, register-of, of-register, register-form}
+use Rattle.model.specs.Words.{State, Front, front-form, book-form, registers-form, unused-width, state-of, of-state, state-form, class-width, class-start, ring-width, ring-start, after-registers, register-start}
 use Rattle.model.specs.Calls.{no-register, register-at, with-register}
 use Rattle.model.proofs.RegisterWords.{each-exact, heading-exact}
 use Rattle.model.proofs.BookWords.{class-exact}

@@ -1,30 +1,28 @@
 -- A class's places as a list: a granted draw, a return and an expiry keep a class well formed, and what they do to its sums.
-use Prim.Native.Nat.{ℕ, zero, suc, _+_, _-_, _*_, _/_, _≤_, _<_, min}
+use Prim.Native.Nat.{ℕ, suc, _+_, _*_, _/_, _≤_, _<_}
 use native.Mathlib.Omega.{arith}
-use mathlib.Core.Path.{_≡_, refl, ap, ap₂, sym, subst, _∙_}
-use mathlib.Core.Bool.{Bool, true, false, cond, not, _&&_, _||_}
-use mathlib.Core.List.{List, [], _∷_, _++_}
-use lib.ListN.{length, drop, replicate, length-append, length-drop, length-replicate}
+use mathlib.Core.Path.{_≡_, refl, ap, subst}
+use mathlib.Core.Bool.{Bool, true, false, not, _&&_, _||_}
+use mathlib.Core.List.{List, [], _∷_}
+use lib.ListN.{length, length-append, length-drop, length-replicate}
 use lib.Dec.{leb, ltb, eqb}
-use borrow.Author.Tests.{eq-eqb, ne-eqb, le-leb, lt-leb, le-ltb, leb-true, leb-false, ltb-true, ltb-false, eqb-true, eqb-false, not-true, not-false}
+use borrow.Author.Tests.{eq-eqb, ne-eqb, le-leb, leb-true, ltb-true, ltb-false, eqb-true, not-true}
 use Rattle.model.specs.declared.Class.{Class}
 use Rattle.model.specs.declared.Class.the-variants.{Feeders, Peers, Own}
 use Rattle.model.specs.declared.Deliverer.{Deliverer}
 use Rattle.model.specs.declared.Deliverer.the-variants.{Feeder, Peer, Relay, Restored}
-use Rattle.model.specs.declared.Draw.{Draw}
 use Rattle.model.specs.declared.Draw.the-variants.{Granted, Closed, OwnShare, ClassLimit, EqualPart, TwiceLimit, Places, Pairs}
 use Rattle.model.specs.declared.Shares.{Shares}
 use Rattle.model.specs.declared.Limits.{Limits}
-use Rattle.runs.specs.Form.{Form}
 use Rattle.runs.specs.Combine.{EachOk}
-use Rattle.runs.proofs.Cases.{by-test, split-if, each-true, all-true, both-true, no}
+use Rattle.runs.proofs.Cases.{by-test, each-true, both-true, no}
 use Rattle.model.specs.Numbers.{top32, cap32}
-use Rattle.model.specs.Settings.{limits-fit, shares-fit}
-use Rattle.model.specs.Class.{class-of, kind-of, same-class, same-deliverer}
-use Rattle.model.specs.Book.{Pair, Place, Held, total, entries, place-units, entries-in, units, entries-of, pairs-of, together, below-share, fair, holders-with, own-after, units-after, listed, place-free, pair-free, draw-room, draw-limits, draw-test, with-pairs, add-pair, new-place, enter, lower-pair, keep-place, give-back, later-pairs, later-places, expire-class}
-use Rattle.model.specs.BookWords.{most-entries, pairs-sound, number-word, read-mark, PlaceOk, has-place, distinct, places-rule, class-form}
+use Rattle.model.specs.Settings.{limits-fit}
+use Rattle.model.specs.Class.{class-of, kind-of, same-deliverer}
+use Rattle.model.specs.Book.{Pair, Place, Held, total, entries, entries-in, units, entries-of, pairs-of, together, below-share, fair, holders-with, own-after, units-after, listed, place-free, pair-free, draw-room, draw-limits, draw-test, with-pairs, add-pair, new-place, enter, lower-pair, keep-place, give-back, later-pairs, later-places, expire-class}
+use Rattle.model.specs.BookWords.{most-entries, pairs-sound, number-word, read-mark, PlaceOk, has-place, distinct, class-form}
 use Rattle.model.proofs.BookWords.{same-class-is, same-class-self}
-use Rattle.model.proofs.Pairs.{total-some, total-add, length-new, length-listed, add-some, add-sound, length-lower, total-lower-le, lower-sound, lower-add, length-later, total-later, later-sound}
+use Rattle.model.proofs.Pairs.{total-some, total-add, length-new, length-listed, add-some, add-sound, length-lower, total-lower-le, lower-sound, length-later, total-later, later-sound}
 
 -- ---- deliverers: the test says that they are equal
 pub same-self : (who : Deliverer) → same-deliverer who who ≡ true

@@ -1,24 +1,24 @@
 -- A reply is a refusal exactly in its condition, and a refusal alters nothing.
-use Prim.Native.Nat.{ℕ, zero, suc, _+_, _-_, _*_, _≤_, _<_}
+use Prim.Native.Nat.{ℕ, _<_}
 use native.Mathlib.Omega.{arith}
-use mathlib.Core.Path.{_≡_, refl, sym, _∙_, ap}
+use mathlib.Core.Path.{_≡_, refl}
 use mathlib.Core.Bool.{Bool, true, false, cond}
 use mathlib.Core.Option.{Option, none, some}
 use mathlib.Core.List.{List, [], _∷_}
 use mathlib.Core.Logic.{_⊎_, inl, inr}
 use lib.Dec.{eqb, lit≤}
-use borrow.Author.Tests.{eqb-true, eqb-false, eq-eqb, ne-eqb}
+use borrow.Author.Tests.{eqb-false, ne-eqb}
 use Rattle.model.specs.declared.Answer.{Answer}
-use Rattle.model.specs.declared.Answer.the-variants.{Refused, Done, Said, Yes, No, Begun, Already, Dumped, Whole, Partly, NoFloor, FloorAt, SweptTo, Entries, Totals}
+use Rattle.model.specs.declared.Answer.the-variants.{Refused, Begun, Already}
 use Rattle.model.specs.declared.Settings.{Settings}
 use Rattle.runs.proofs.Cases.{by-test, split-if, no}
 use Rattle.model.specs.Settings.{settings-of}
 use Rattle.model.specs.Generation.{as-read}
-use Rattle.model.specs.Register.{Register, any-class, holds-any}
+use Rattle.model.specs.Register.{any-class, holds-any}
 use Rattle.model.specs.Dump.{Dump, read-dump, Restoring}
 use Rattle.model.specs.Judge.{Ask}
 use Rattle.model.specs.Words.{State}
-use Rattle.model.specs.Calls.{Manner, judged, judged-batch, taken, taken-batch, Deed, Ticket, ContainsHash, Begin, Sweep, DumpTo, Restore, Resume, Floor, Pending, SweptBucket, Call, Open, On, Expire, SetLimits, Close, HeldBy, ClassTotals, Step, register-at, yes-no, floor-answer, ask-of, asked, after-judged, after-taken, after-restored, restored, resumed, done-on, class-totals, step, held-in, Refusal, first-met, refusals, refused, reply, after, output-of, output-after}
+use Rattle.model.specs.Calls.{Manner, judged, judged-batch, taken, taken-batch, Deed, Ticket, ContainsHash, Begin, Sweep, DumpTo, Restore, Resume, Floor, Pending, SweptBucket, Call, Open, On, Expire, SetLimits, Close, HeldBy, ClassTotals, register-at, yes-no, floor-answer, ask-of, asked, after-judged, after-taken, after-restored, restored, resumed, done-on, class-totals, step, held-in, Refusal, first-met, refusals, refused, reply, after, output-of, output-after}
 use Rattle.model.specs.Refusals.{First, here, later, NoneMet, nothing, not-this, Refuses}
 
 -- ---- a step's own answer is no refusal

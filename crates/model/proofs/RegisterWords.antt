@@ -1,8 +1,8 @@
 -- A register's words: its heading is exact, and so is one thing for each class where each is, and a register where its rings are.
-use Prim.Native.Nat.{ℕ, _+_, _*_, _≤_}
+use Prim.Native.Nat.{ℕ}
 use native.Mathlib.Omega.{arith}
-use mathlib.Core.Path.{_≡_, refl, sym, _∙_, ap, subst, subst⁻¹}
-use mathlib.Core.Bool.{Bool, true, false, cond, _&&_, _||_}
+use mathlib.Core.Path.{_≡_, refl, subst, subst⁻¹}
+use mathlib.Core.Bool.{Bool, true, false, _||_}
 use mathlib.Core.Option.{Option, none, some}
 use mathlib.Core.List.{List, [], _∷_}
 use lib.ListN.{length, getD, drop, length-drop}
@@ -12,12 +12,11 @@ use Rattle.model.specs.declared.Class.{Class}
 use Rattle.model.specs.declared.Class.the-variants.{Feeders, Peers, Own}
 use Rattle.model.specs.declared.Usable.{Usable}
 use Rattle.runs.specs.Form.{Form, Exact}
-use Rattle.runs.specs.Combine.{Both, both, many}
-use Rattle.runs.proofs.Cases.{by-test, both-true, each-true, all-true}
+use Rattle.runs.specs.Combine.{both}
+use Rattle.runs.proofs.Cases.{by-test, both-true, each-true}
 use Rattle.runs.proofs.Firsts.{firsts, firsts-are}
 use Rattle.runs.proofs.Exact.{both-exact, seen-exact}
-use Rattle.model.specs.Class.{Each}
-use Rattle.model.specs.Register.{Ring, published, spare-words}
+use Rattle.model.specs.Register.{published, spare-words}
 use Rattle.model.specs.RegisterWords.{each-of, of-each, each-form, flag-word, floor-flag, floor-word, read-floor, floor-sound, Heading, heading-width, encode-heading, read-heading, kept-usable, published-sound, heading-sound, heading-form, ring-form, register-of, of-register, register-form}
 
 -- ---- one for each class

@@ -1,6 +1,6 @@
 -- The conditions of the round trip are met, computed on words, settings, calls and bytes (specs/RoundTripCases); so what was dumped comes
 -- back.
-use Prim.Native.Nat.{ℕ, _≤_, _<_}
+use Prim.Native.Nat.{ℕ, _<_}
 use native.Mathlib.Omega.{arith}
 use mathlib.Core.Path.{_≡_, refl}
 use mathlib.Core.Bool.{Bool, true, false, _&&_}

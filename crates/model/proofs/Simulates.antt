@@ -12,7 +12,6 @@ use borrow.Author.Tests.{eqb-true, eq-eqb, ltb-false, not-false}
 use Rattle.model.specs.declared.Settings.{Settings}
 use Rattle.model.specs.declared.Answer.{Answer}
 use Rattle.model.specs.declared.Answer.the-variants.{Refused, Done, Said, Yes, No, Begun, Already, Dumped, Whole, Partly, NoFloor, FloorAt, SweptTo, Entries, Totals}
-use Rattle.runs.specs.Form.{Form, Exact}
 use Rattle.runs.proofs.Cases.{by-test, both-true, no}
 use Rattle.model.specs.Settings.{settings-width, settings-of, settings-fit, words-needed}
 use Rattle.model.specs.Words.{State, state-form}

@@ -11,7 +11,6 @@ use borrow.Author.Tests.{leb-false}
 use Rattle.model.specs.declared.Class.{Class}
 use Rattle.model.specs.declared.Class.the-variants.{Feeders, Peers, Own}
 use Rattle.model.specs.declared.Settings.{Settings}
-use Rattle.runs.specs.Form.{Form}
 use Rattle.runs.specs.Combine.{EachOk}
 use Rattle.runs.proofs.Cases.{both-true}
 use Rattle.runs.proofs.Each.{each-at, each-set}

@@ -14,7 +14,6 @@ use Rattle.model.specs.declared.Shares.{Shares}
 use Rattle.model.specs.declared.Limits.{Limits}
 use Rattle.model.specs.declared.Usable.{Usable}
 use Rattle.model.specs.declared.Verdict.{Verdict}
-use Rattle.runs.specs.Form.{Form}
 use Rattle.runs.proofs.Cases.{by-test, no}
 use Rattle.model.specs.Settings.{settings-of, usable-at}
 use Rattle.model.specs.Class.{class-of}

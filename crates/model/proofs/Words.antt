@@ -1,25 +1,25 @@
 -- The whole run of words: the front is exact, and so all of it; and it takes exactly the words that the settings need.
-use Prim.Native.Nat.{ℕ, zero, suc, _+_, _-_, _*_, _≤_}
+use Prim.Native.Nat.{ℕ, zero, suc, _+_, _*_, _≤_}
 use native.Mathlib.Nat.{mul-assoc}
 use native.Mathlib.Omega.{arith}
-use mathlib.Core.Path.{_≡_, refl, sym, _∙_, ap, subst, subst⁻¹}
-use mathlib.Core.Bool.{Bool, true, false, cond, _&&_, _||_}
+use mathlib.Core.Path.{_≡_, refl, subst, subst⁻¹}
+use mathlib.Core.Bool.{true, _&&_}
 use mathlib.Core.List.{List, [], _∷_}
 use lib.ListN.{length, getD, drop, length-drop}
 use lib.Dec.{eqb, leb}
 use borrow.Author.Tests.{eqb-true, leb-true}
 use Rattle.model.specs.declared.Usable.{Usable}
 use Rattle.model.specs.declared.Settings.{Settings}
-use Rattle.runs.specs.Form.{Form, Exact}
-use Rattle.runs.specs.Combine.{Both, both, row, wideRow, free}
+use Rattle.runs.specs.Form.{Exact}
+use Rattle.runs.specs.Combine.{both, wideRow, free}
 use Rattle.runs.proofs.Cases.{each-true}
 use Rattle.runs.proofs.Firsts.{firsts, firsts-are}
 use Rattle.runs.proofs.Exact.{both-exact, seen-exact, row-exact, many-exact, free-exact}
 use Rattle.model.specs.Settings.{limits-of, limits-fit, usable-at, settings-fit, fit-at, shares-fit, ring-of, register-words, registers-words, book-words, words-needed}
 use Rattle.model.specs.GenerationWords.{generation-place}
 use Rattle.model.specs.BookWords.{class-form}
-use Rattle.model.specs.RegisterWords.{each-form, flag-word, heading-width, ring-form, register-form}
-use Rattle.model.specs.Words.{State, Front, front-width, front-spare, encode-front, read-front, kept-shares, front-sound, FrontOk, front-form, book-form, registers-form, unused-width, Parts, state-of, of-state, state-form}
+use Rattle.model.specs.RegisterWords.{heading-width, ring-form, register-form}
+use Rattle.model.specs.Words.{Front, front-width, front-spare, encode-front, read-front, kept-shares, front-sound, FrontOk, front-form, book-form, registers-form, unused-width, state-of, of-state, state-form}
 use Rattle.model.proofs.GenerationWords.{generation-exact}
 use Rattle.model.proofs.BookWords.{class-exact}
 use Rattle.model.proofs.RegisterWords.{each-exact, flag-back, flag-test, flag-read, same, register-exact}

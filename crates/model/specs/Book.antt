@@ -1,6 +1,6 @@
 -- "Entry shares": who holds how many entries, by the second in which they end.
-use Prim.Native.Nat.{ℕ, zero, suc, _+_, _-_, _*_, _/_}
-use mathlib.Core.Bool.{Bool, true, false, cond, not, _&&_, _||_}
+use Prim.Native.Nat.{ℕ, suc, _+_, _-_, _*_, _/_}
+use mathlib.Core.Bool.{Bool, true, false, cond, not, _||_}
 use mathlib.Core.List.{List, [], _∷_, _++_}
 use lib.Dec.{leb, ltb, eqb}
 use lib.ListN.{length, drop, replicate}

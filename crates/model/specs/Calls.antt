@@ -1,26 +1,22 @@
 -- "Who causes which reply": every call as a value, the refusals in their order, the reply, and the words and bytes after it.
-use Prim.Native.Nat.{ℕ, zero, suc, _+_, _-_, _*_, min}
+use Prim.Native.Nat.{ℕ, zero, suc, _+_, _*_, min}
 use mathlib.Core.Bool.{Bool, true, false, cond, not, _&&_, _||_}
 use mathlib.Core.List.{List, [], _∷_, _++_}
 use mathlib.Core.Option.{Option, none, some}
 use lib.Dec.{leb, ltb, eqb}
 use lib.ListN.{length, getD, set, take, drop, replicate}
-use Rattle.model.specs.declared.Class.{Class}
 use Rattle.model.specs.declared.Answer.{Answer}
 use Rattle.model.specs.declared.Answer.the-variants.{Refused, Done, Said, Yes, No, Begun, Already, Dumped, Whole, Partly, NoFloor, FloorAt, SweptTo, Entries, Totals}
-use Rattle.model.specs.declared.Usable.{Usable}
 use Rattle.model.specs.declared.Settings.{Settings}
-use Rattle.runs.specs.Form.{Form}
 use Rattle.model.specs.Settings.{settings-width, settings-of, limits-width, limits-of, limits-fit, settings-fit, usable-at, words-needed}
 use Rattle.model.specs.Class.{class-fits, class-at, class-of, deliverer-fits, deliverer-of, three, pick}
 use Rattle.model.specs.Codes.{flag-fits, flag-of, start-fits, start-of}
 use Rattle.model.specs.Generation.{as-read}
 use Rattle.model.specs.Book.{Held, Book, entries-of, entries-in, units, places-of, expire, opened-book, closed-book, with-limits}
-use Rattle.model.specs.Register.{Ring, Register, any-class, holds-any, sweep, published, started, begin}
+use Rattle.model.specs.Register.{Register, any-class, holds-any, sweep, published, started, begin}
 use Rattle.model.specs.Judge.{Ask, Judged, judge, judge-batch, Taken, take-batch}
 use Rattle.model.specs.Judge.{take as take-ticket}
 use Rattle.model.specs.Dump.{dump-bytes, Dump, read-dump, Restoring, restore, resume}
-use Rattle.model.specs.RegisterWords.{heading-width}
 use Rattle.model.specs.Words.{State, front-spare, unused-width, state-form}
 
 -- ---- calls, with every number as it is handed in

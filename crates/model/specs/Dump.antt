@@ -1,9 +1,9 @@
 -- "Dump": a register's floor and generations as bytes, restore and resume.
-use Prim.Native.Nat.{ℕ, zero, suc, _+_, _-_, _*_, _/_, _%_, _^_}
-use mathlib.Core.Bool.{Bool, true, false, cond, not, _&&_, _||_}
+use Prim.Native.Nat.{ℕ, zero, suc, _+_, _-_, _*_, _/_, _%_}
+use mathlib.Core.Bool.{Bool, true, false, cond, not}
 use mathlib.Core.List.{List, [], _∷_, _++_}
 use mathlib.Core.Option.{Option, none, some}
-use lib.Dec.{leb, ltb, eqb}
+use lib.Dec.{leb, eqb}
 use lib.ListN.{length, take, drop}
 use Rattle.model.specs.declared.Class.{Class}
 use Rattle.model.specs.declared.Class.the-variants.{Feeders, Peers, Own}
@@ -16,7 +16,7 @@ use Rattle.model.specs.declared.Shares.{Shares}
 use Rattle.runs.specs.Chunks.{flat}
 use Rattle.model.specs.Numbers.{if_then_else_, cap64, raise}
 use Rattle.model.specs.Class.{Each, pick, swap}
-use Rattle.model.specs.Generation.{Generation, held, as-read, dropped}
+use Rattle.model.specs.Generation.{held, as-read, dropped}
 use Rattle.model.specs.Book.{Book, second-of, granted, draw-says, drawn, undrawn}
 use Rattle.model.specs.Register.{Ring, Register, with-floor, with-rings, generation-at, with-generation, strike}
 use Rattle.model.specs.Judge.{make-room}

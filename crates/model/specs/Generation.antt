@@ -1,6 +1,6 @@
 -- "Judge and take", second paragraph: a generation's slots, probing, growth and insertion. A slot of 0 is empty.
 use Prim.Native.Nat.{ℕ, zero, suc, _+_, _*_, _%_, max}
-use mathlib.Core.Bool.{Bool, true, false, cond, _||_}
+use mathlib.Core.Bool.{Bool, false, cond, _||_}
 use mathlib.Core.List.{List, [], _∷_}
 use lib.Dec.{leb, eqb}
 use lib.ListN.{length, getD, set, replicate}

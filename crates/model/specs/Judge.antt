@@ -1,6 +1,6 @@
 -- "Judge and take", first paragraph: buckets, windows, judge, take and their batch forms.
 use Prim.Native.Nat.{ℕ, _+_, _%_}
-use mathlib.Core.Bool.{Bool, true, false, cond, not, _&&_, _||_}
+use mathlib.Core.Bool.{Bool, cond, not, _&&_, _||_}
 use lib.Dec.{leb, ltb, eqb}
 use lib.ListN.{length}
 use Rattle.model.specs.declared.Deliverer.{Deliverer}
@@ -9,7 +9,6 @@ use Rattle.model.specs.declared.Verdict.{Verdict}
 use Rattle.model.specs.declared.Verdict.the-variants.{New, Duplicate, Late, Ahead, Full, Unjudged}
 use Rattle.model.specs.declared.Room.{Room}
 use Rattle.model.specs.declared.Room.the-variants.{At, Collides, Full as NoSlots}
-use Rattle.model.specs.declared.Draw.{Draw}
 use Rattle.model.specs.declared.Window.{Window}
 use Rattle.model.specs.declared.Usable.{Usable}
 use Rattle.model.specs.declared.Shares.{Shares}

@@ -1,17 +1,16 @@
 -- "Misreadings to exclude", each as what holds instead; proofs/Misreadings has the proofs.
 use Prim.Native.Nat.{ℕ, _<_, _≤_}
 use mathlib.Core.Path.{_≡_}
-use mathlib.Core.Bool.{Bool, true, false}
+use mathlib.Core.Bool.{true}
 use mathlib.Core.List.{List, [], _∷_}
-use mathlib.Core.Option.{Option, none, some}
+use mathlib.Core.Option.{Option, some}
 use lib.ListN.{length}
 use Rattle.model.specs.declared.Class.{Class}
 use Rattle.model.specs.declared.Settings.{Settings}
 use Rattle.model.specs.declared.Usable.{Usable}
-use Rattle.model.specs.declared.Verdict.{Verdict}
 use Rattle.model.specs.declared.Verdict.the-variants.{Duplicate}
 use Rattle.model.specs.Generation.{as-read}
-use Rattle.model.specs.Book.{Place, places-of}
+use Rattle.model.specs.Book.{places-of}
 use Rattle.model.specs.Register.{Register, any-class, holds, sweep}
 use Rattle.model.specs.Judge.{Ask, bucket-of, verdict}
 use Rattle.model.specs.Dump.{dump-words, dump-bytes}

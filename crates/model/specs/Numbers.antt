@@ -1,6 +1,6 @@
 -- What all rules share: a choice, bounds, rounding up, the two caps, and a floor that may be absent.
 use Prim.Native.Nat.{ℕ, _+_, _-_, _/_, min, max}
-use mathlib.Core.Bool.{Bool, true, false, cond, _&&_}
+use mathlib.Core.Bool.{Bool, false, cond, _&&_}
 use mathlib.Core.Option.{Option, none, some}
 use lib.Dec.{leb}
 

@@ -1,10 +1,9 @@
 -- "Tried in the order 1, 2, 3, 4, 6, 5, 7. Each returns its number alone, alters nothing, and comes only in its condition."
 use Prim.Native.Nat.{ℕ}
 use mathlib.Core.Path.{_≡_}
-use mathlib.Core.Bool.{Bool, true, false}
+use mathlib.Core.Bool.{true, false}
 use mathlib.Core.List.{List, [], _∷_}
 use mathlib.Core.Logic.{_⊎_}
-use Rattle.model.specs.declared.Answer.{Answer}
 use Rattle.model.specs.declared.Answer.the-variants.{Refused}
 use Rattle.model.specs.Calls.{Call, Refusal, refusals, reply, after, output-of, output-after}
 

@@ -1,6 +1,6 @@
 -- A register and its rings, "Sweep and floor", and how a register starts and begins.
-use Prim.Native.Nat.{ℕ, zero, suc, _+_, _-_, _*_, _%_, max}
-use mathlib.Core.Bool.{Bool, true, false, cond, not, _&&_, _||_}
+use Prim.Native.Nat.{ℕ, zero, suc, _-_, _*_, _%_, max}
+use mathlib.Core.Bool.{Bool, true, false, not, _&&_, _||_}
 use mathlib.Core.List.{List, [], _∷_}
 use mathlib.Core.Option.{Option, none, some}
 use lib.Dec.{leb, ltb, eqb}

@@ -1,11 +1,11 @@
 -- "Settings and soundness": a register's words, and when they are sound.
 -- A register: 24 words (its six settings as kept, swept, the published sweep, whether there is a floor, the floor, whether it is
 -- pending, 13 spare words), then for each class a ring of generations.
-use Prim.Native.Nat.{ℕ, _+_, _*_}
+use Prim.Native.Nat.{ℕ}
 use mathlib.Core.Path.{_≡_}
 use mathlib.Core.Bool.{Bool, true, false, cond, _&&_, _||_}
 use mathlib.Core.Option.{Option, none, some}
-use mathlib.Core.List.{List, [], _∷_}
+use mathlib.Core.List.{List, _∷_}
 use lib.ListN.{length, getD, drop}
 use lib.Dec.{eqb, leb}
 use Rattle.model.specs.declared.Class.{Class}

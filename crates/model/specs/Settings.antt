@@ -1,9 +1,9 @@
 -- "Settings and soundness", first half: the settings as they are handed in, their bounds, and the words that they need.
 use Prim.Native.Nat.{ℕ, zero, suc, _+_, _*_, max}
-use mathlib.Core.Bool.{Bool, true, false, cond, _&&_, _||_}
+use mathlib.Core.Bool.{Bool, cond, _&&_, _||_}
 use mathlib.Core.List.{List, [], _∷_}
 use lib.Dec.{leb, ltb, eqb}
-use lib.ListN.{length, getD}
+use lib.ListN.{getD}
 use Rattle.model.specs.declared.Window.{Window}
 use Rattle.model.specs.declared.Usable.{Usable}
 use Rattle.model.specs.declared.Shares.{Shares}

@@ -3,13 +3,11 @@
 -- and found by probing, at most 3/4 full and a power of two; pairs rising; totals the sums; entries at most 2,000,000; and so on.
 use Prim.Native.Nat.{ℕ, _≤_}
 use mathlib.Core.Path.{_≡_}
-use mathlib.Core.Bool.{Bool, true, false}
+use mathlib.Core.Bool.{true, false}
 use mathlib.Core.Option.{some}
 use mathlib.Core.List.{List}
 use lib.ListN.{length}
 use Rattle.model.specs.declared.Settings.{Settings}
-use Rattle.model.specs.declared.Answer.{Answer}
-use Rattle.runs.specs.Form.{Form}
 use Rattle.model.specs.Settings.{settings-of, settings-fit, words-needed}
 use Rattle.model.specs.Words.{State, state-form}
 use Rattle.model.specs.Codes.{went-through}

@@ -1,25 +1,23 @@
 -- "Settings and soundness": one run of words holds a share book and R registers.
 -- Words: 20 of the front (R, P, E and the two units as kept, the five limits, the closed flag, 9 spare words), the book's three classes,
 -- the R registers, and 24 unused words for each register that there is not.
-use Prim.Native.Nat.{ℕ, zero, suc, _+_, _-_, _*_, _≤_}
+use Prim.Native.Nat.{ℕ, zero, suc, _+_, _-_, _*_}
 use mathlib.Core.Path.{_≡_}
-use mathlib.Core.Bool.{Bool, true, false, cond, _&&_, _||_}
-use mathlib.Core.Option.{Option, none, some}
-use mathlib.Core.List.{List, [], _∷_, _++_}
-use lib.ListN.{length, getD, drop, replicate}
+use mathlib.Core.Bool.{Bool, true, _&&_}
+use mathlib.Core.List.{List, _∷_}
+use lib.ListN.{length, getD, drop}
 use lib.Dec.{eqb, leb}
 use Rattle.model.specs.declared.Class.{Class}
 use Rattle.model.specs.declared.Usable.{Usable}
 use Rattle.model.specs.declared.Shares.{Shares}
 use Rattle.model.specs.declared.Limits.{Limits}
 use Rattle.model.specs.declared.Settings.{Settings}
-use Rattle.model.specs.declared.Start.{Start}
-use Rattle.runs.specs.Form.{Form, view}
+use Rattle.runs.specs.Form.{Form}
 use Rattle.runs.specs.Combine.{Both, both, row, free, seen-as}
 use Rattle.model.specs.Settings.{limits-of, limits-fit, usable-at, ring-of}
 use Rattle.model.specs.Class.{class-number, Each}
-use Rattle.model.specs.Book.{Held, Book, opened-book}
-use Rattle.model.specs.Register.{Register, started}
+use Rattle.model.specs.Book.{Held, Book}
+use Rattle.model.specs.Register.{Register}
 use Rattle.model.specs.BookWords.{class-form}
 use Rattle.model.specs.RegisterWords.{each-form, flag-word, heading-width, register-form}
 

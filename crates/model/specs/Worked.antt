@@ -1,14 +1,13 @@
 -- "Tickets worked through": the cases marked P in one table, each number of the paper beside the calls that give it.
 -- The theorem that the rules give them all is proofs/Worked.
 use Prim.Native.Nat.{ℕ, zero, suc, _+_, _*_, _%_}
-use mathlib.Core.Bool.{Bool, true, false, cond}
+use mathlib.Core.Bool.{cond}
 use mathlib.Core.List.{List, [], _∷_, _++_, map}
 use lib.Dec.{eqb}
 use lib.ListN.{length, replicate}
-use Rattle.model.specs.declared.Verdict.{Verdict}
 use Rattle.model.specs.declared.Verdict.the-variants.{New, Duplicate, Late, Ahead, Full}
 use Rattle.model.specs.declared.Answer.{Answer}
-use Rattle.model.specs.declared.Answer.the-variants.{Refused, Done, Said, Yes, Dumped, Whole, NoFloor, FloorAt, Entries, Totals}
+use Rattle.model.specs.declared.Answer.the-variants.{Refused, Done, Said, Yes, Dumped, NoFloor, FloorAt, Entries, Totals}
 use Rattle.model.specs.Settings.{settings-of, usable-at, ring-of}
 use Rattle.model.specs.Register.{generation-at}
 use Rattle.model.specs.Judge.{bucket-of}

@@ -1,23 +1,22 @@
 -- Parts lie within the needed words, and settings in bounds keep their places small.
-use Prim.Native.Nat.{ℕ, zero, suc, _+_, _-_, _*_, _<_, _≤_}
-use native.Mathlib.Nat.{mul-assoc, mul-le-mul, mul-le-mul-right, suc-mul}
+use Prim.Native.Nat.{ℕ, zero, suc, _+_, _*_, _<_, _≤_}
+use native.Mathlib.Nat.{mul-assoc, mul-le-mul}
 use native.Mathlib.Numerals.{add-one}
 use native.Mathlib.Omega.{arith}
-use mathlib.Core.Path.{_≡_, refl, sym, _∙_, ap}
-use mathlib.Core.Bool.{Bool, true, false, cond, _&&_, _||_}
-use mathlib.Core.List.{List, [], _∷_}
+use mathlib.Core.Path.{_≡_, refl, ap}
+use mathlib.Core.Bool.{true}
 use Rattle.model.specs.declared.Class.{Class}
 use Rattle.model.specs.declared.Class.the-variants.{Feeders, Peers, Own}
 use Rattle.model.specs.declared.Usable.{Usable}
 use Rattle.model.specs.declared.Shares.{Shares}
 use Rattle.model.specs.declared.Settings.{Settings}
-use Rattle.model.specs.Settings.{ring-of, usable-fit, shares-fit, usable-at, settings-fit, register-words, registers-words, book-words, words-needed}
+use Rattle.model.specs.Settings.{ring-of, usable-fit, usable-at, settings-fit, register-words, registers-words, book-words, words-needed}
 use Rattle.model.specs.Class.{class-number}
 use Rattle.model.specs.Words.{class-width, class-start, ring-width, register-width, ring-start, after-registers, register-start}
 use Rattle.model.proofs.Bounds.{fit-shares, fit-usable}
 use Rattle.model.proofs.Words.{registers≤4}
 use Rattle.numbers.specs.Places.{RegisterAt}
-use Rattle.numbers.proofs.Needed.{Few, usable-few, FewPlaces, shares-few}
+use Rattle.numbers.proofs.Needed.{usable-few, shares-few}
 
 -- ---- a class in the book
 -- at most 64 places have few words

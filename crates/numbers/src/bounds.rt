@@ -7,9 +7,8 @@ use model::Shares;
 use model::Usable;
 use model::Window;
 ghost use mathlib.Core.Path.{_≡_};
-ghost use mathlib.Core.Bool.{true, cond};
+ghost use mathlib.Core.Bool.{true};
 ghost use Prim.Native.Nat.{_<_, _≤_};
-ghost use lib.Dec.{ltb};
 ghost use lib.ListN.{length};
 ghost use Rattle.model.specs.Settings.{usable-of as usable-in, usable-below as usable-read, no-usable as no-settings, settings-of as settings-in, limits-of as limits-in, usable-at, power-of-two, window-fit as window-within, usable-fit as usable-within, shares-fit as shares-within, limits-fit as limits-within, settings-fit as settings-within, fit-at, register-words, words-for, book-words as places-words, words-needed as needed};
 

@@ -4,7 +4,7 @@ use model::Deliverer;
 use model::Start;
 use model::Verdict;
 ghost use mathlib.Core.Path.{_≡_};
-ghost use Rattle.model.specs.Class.{class-number as number-of-class, class-fits as listed-class, class-at as class-with, class-of as class-for, kind-of as kind-for, deliverer-fits as listed-deliverer, deliverer-of as deliverer-with};
+ghost use Rattle.model.specs.Class.{class-number as number-of-class, class-fits as listed-class, class-at as class-with, class-of as class-for, deliverer-fits as listed-deliverer, deliverer-of as deliverer-with};
 ghost use Rattle.model.specs.Codes.{flag-fits as listed-flag, start-fits as listed-start, start-of as start-with, verdict-number as number-of-verdict};
 
 pub fn flag_fits(flag: u64) -> bool

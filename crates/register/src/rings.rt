@@ -7,7 +7,6 @@ use model::Class;
 use model::Room;
 use model::Usable;
 use numbers::spans;
-ghost use mathlib.Core.Path.{_≡_};
 ghost use Prim.Native.Nat.{_<_};
 ghost use Rattle.model.specs.Class.{pick};
 ghost use Rattle.model.specs.Generation.{as-read as read-as};

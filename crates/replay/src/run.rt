@@ -7,7 +7,6 @@ use calls_text::call::Look;
 use calls_text::call::Move;
 use calls_text::call::Name;
 use model::Answer;
-ghost use mathlib.Core.Path.{_≡_};
 ghost use Prim.Native.Nat.{_≤_, _<_};
 ghost use lib.ListN.{length};
 

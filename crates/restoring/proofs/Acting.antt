@@ -1,14 +1,10 @@
 -- What a part's functions do to the run, said of a register and a book. Assumes nothing.
-use Prim.Native.Nat.{ℕ, _+_, _-_, _<_, _≤_}
-use native.Mathlib.Omega.{arith}
-use mathlib.Core.Path.{_≡_, refl, sym, ap, subst, _∙_}
-use mathlib.Core.Bool.{Bool, true}
+use Prim.Native.Nat.{ℕ, _-_, _<_}
+use mathlib.Core.Path.{_≡_, sym, ap, subst, _∙_}
 use mathlib.Core.List.{List}
-use lib.ListN.{length, set}
 use lib.Seq.{getD-set-same, set-getD, set-set}
 use borrow.Rule.Slice.PartMut.{midOf, putMid}
 use Rattle.model.specs.declared.Settings.{Settings}
-use Rattle.model.specs.declared.Usable.{Usable}
 use Rattle.model.specs.Settings.{usable-at}
 use Rattle.model.specs.Book.{Book}
 use Rattle.model.specs.Register.{Register}

@@ -1,5 +1,5 @@
 -- The generations of a class one after the other, and the classes of a dump. Assumes nothing.
-use Prim.Native.Nat.{ℕ, zero, suc, _+_, _-_, _/_, _<_, _≤_}
+use Prim.Native.Nat.{ℕ, _+_, _-_, _/_, _<_, _≤_}
 use native.Mathlib.Omega.{arith}
 use mathlib.Core.Path.{_≡_, refl, sym, ap, subst, _∙_}
 use mathlib.Core.Bool.{Bool, true, false, _&&_}
@@ -16,8 +16,7 @@ use Rattle.model.specs.Register.{Register}
 use Rattle.model.specs.Dump.{Dumped, Dump, Holding, Restoring, words-of, hold-all, settled, restore-class, raised-to-dumped, restore, raised-to-proven, resume}
 use Rattle.model.specs.Calls.{restored, resumed, after-restored}
 use Rattle.register.specs.Rules.{floor-gone, raised}
-use Rattle.dump.specs.declared.walk.Found.{Found}
-use Rattle.dump.specs.Walk.{dumped-at, next-at, dumped-from, class-dumped, class-end, FoundAt, Walks, Steps, ClassWalks, dump-at}
+use Rattle.dump.specs.Walk.{dumped-at, next-at, dumped-from, class-dumped, class-end, Walks, ClassWalks}
 use Rattle.dump.proofs.Walks.{walk-next, walk-done}
 use Rattle.taking.specs.Words.{RunWords, StateTurns}
 use Rattle.restoring.specs.declared.heads.Head.{Head}

@@ -15,9 +15,8 @@ use Rattle.model.specs.declared.Room.{Room}
 use Rattle.model.specs.declared.Room.the-variants.{At, Collides, Full as NoSlots}
 use Rattle.model.specs.declared.Settings.{Settings}
 use Rattle.model.specs.Settings.{usable-at}
-use Rattle.model.specs.Book.{Book, second-of, undrawn}
+use Rattle.model.specs.Book.{Book, undrawn}
 use Rattle.model.specs.Register.{Register}
-use Rattle.model.specs.Words.{State}
 use Rattle.model.specs.Dump.{Dumped, Holding, Restoring, words-of, hold-room, hold-one, hold-all, undrawn-all, failed, settled}
 use Rattle.register.specs.Rules.{failed-at}
 use Rattle.dump.specs.Walk.{length-at, dumped-at, next-at}

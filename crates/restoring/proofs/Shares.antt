@@ -1,7 +1,7 @@
 -- A restored draw, and one given back, said of a register and a book. Assumes nothing.
 use Prim.Native.Nat.{ℕ, _+_, _-_, _<_, _≤_}
-use mathlib.Core.Path.{_≡_, refl, sym, ap, subst, _∙_}
-use mathlib.Core.Bool.{Bool, false, cond}
+use mathlib.Core.Path.{_≡_, refl, ap, _∙_}
+use mathlib.Core.Bool.{Bool}
 use mathlib.Core.List.{List}
 use borrow.Rule.Slice.PartMut.{midOf, putMid}
 use Rattle.runs.specs.Turns.{Reads}
@@ -12,11 +12,10 @@ use Rattle.model.specs.declared.Deliverer.the-variants.{Restored}
 use Rattle.model.specs.declared.Draw.{Draw}
 use Rattle.model.specs.declared.Limits.{Limits}
 use Rattle.model.specs.declared.Settings.{Settings}
-use Rattle.model.specs.declared.Shares.{Shares}
 use Rattle.model.specs.Settings.{usable-at}
 use Rattle.model.specs.Class.{Each, pick, swap, class-of}
 use Rattle.model.specs.Numbers.{top32}
-use Rattle.model.specs.Book.{Book, Held, granted, draw-test, draw-says, drawn, undrawn, second-of}
+use Rattle.model.specs.Book.{Book, Held, granted, draw-test, draw-says, drawn, undrawn}
 use Rattle.model.specs.Words.{state-form, FrontOk, encode-front, class-width, class-start}
 use Rattle.model.proofs.Bounds.{fit-shares}
 use Rattle.model.proofs.BookKept.{BookOk, pairs-some, second-short, drawn-ok, undrawn-ok}
@@ -27,7 +26,7 @@ use Rattle.taking.proofs.InRun.{class-asks, class-turns}
 use Rattle.taking.proofs.Draws.{limits-says, closed-says}
 use Rattle.restoring.specs.declared.heads.Head.{Head}
 use Rattle.restoring.specs.Rules.{Suits, silent, may-draw, drawn-if}
-use Rattle.restoring.specs.Words.{put, Now, Acts}
+use Rattle.restoring.specs.Words.{put, Acts}
 use Rattle.restoring.proofs.Acting.{acts-words}
 
 swap-own : {A : Type 0} (c : Class) (e : Each A) → swap c (pick c e) e ≡ e

@@ -1,7 +1,7 @@
 -- A restore step by step: of every register and book that the words were, what is still to be done to those that they are now is
 -- all that was to be done. Assumes nothing.
 use Prim.Native.Nat.{ℕ}
-use mathlib.Core.Path.{_≡_, refl, sym, ap, subst, _∙_}
+use mathlib.Core.Path.{_≡_, sym, ap, subst, _∙_}
 use mathlib.Core.List.{List}
 use Rattle.model.specs.declared.Settings.{Settings}
 use Rattle.model.specs.Book.{Book}

@@ -12,7 +12,7 @@ ghost use Rattle.model.specs.Dump.{words-of, undrawn-all};
 ghost use Rattle.dump.specs.Walk.{dumped-at, length-at, next-at};
 ghost use Rattle.numbers.specs.Places.{RegisterAt};
 ghost use Rattle.taking.specs.Words.{RunWords};
-ghost use Rattle.restoring.specs.Rules.{Suits, silent, HoldActs, RestoreActs, AllOnes, one-held, all-held, generation-restored};
+ghost use Rattle.restoring.specs.Rules.{Suits, silent, HoldActs, RestoreActs, AllOnes, all-held, generation-restored};
 ghost use Rattle.restoring.specs.Words.{Acts};
 
 // One fingerprint: drawn first, and then struck where there is room.

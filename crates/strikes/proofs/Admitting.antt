@@ -1,17 +1,15 @@
 -- What the first refusals mean for each kind of call, and what a call that passes them may use.
-use Prim.Native.Nat.{ℕ, zero, suc, _+_, _-_, _*_, _<_, _≤_}
+use Prim.Native.Nat.{ℕ, _<_, _≤_}
 use native.Mathlib.Omega.{arith}
-use mathlib.Core.Path.{_≡_, refl, sym, _∙_, ap}
-use mathlib.Core.Bool.{Bool, true, false, cond, not, _&&_, _||_, and-true, and-false}
+use mathlib.Core.Path.{_≡_, refl, sym, _∙_}
+use mathlib.Core.Bool.{Bool, true, false, not, _&&_, and-true, and-false}
 use mathlib.Core.List.{List, [], _∷_}
-use lib.Dec.{leb, ltb, eqb}
+use lib.Dec.{leb, eqb}
 use lib.ListN.{length}
 use borrow.Author.Tests.{leb-false, ltb-false, not-false, eqb-true, le-leb, lt-leb}
-use Rattle.runs.proofs.Cases.{by-test, both-true, no}
-use Rattle.model.specs.declared.Settings.{Settings}
-use Rattle.model.specs.Settings.{settings-of, settings-fit, words-needed}
-use Rattle.model.specs.Words.{State}
-use Rattle.model.specs.Calls.{Deed, Call, On, Expire, SetLimits, Close, HeldBy, ClassTotals, Refusal, refusal, first-met, settings-words-fit, deed-fits, codes-fit, unfit, is-open, too-short, sound, unsound, no-such-register, Late, never-late, late-deed, late, refusals, refused, register-at, held-in}
+use Rattle.runs.proofs.Cases.{by-test, both-true}
+use Rattle.model.specs.Settings.{settings-of, settings-fit}
+use Rattle.model.specs.Calls.{Deed, Call, On, Expire, SetLimits, Close, HeldBy, ClassTotals, Refusal, refusal, first-met, settings-words-fit, deed-fits, codes-fit, unfit, is-open, too-short, sound, unsound, no-such-register, Late, late-deed, late, refused, register-at, held-in}
 use Rattle.vet.specs.Vetted.{vetted}
 use Rattle.strikes.specs.Admitted.{vets, admits}
 use Rattle.strikes.proofs.Through.{Entered, entered}

@@ -1,23 +1,21 @@
 -- A call that reads one class's share book.
-use Prim.Native.Nat.{ℕ, zero, suc, _+_, _-_, _*_, _<_, _≤_}
+use Prim.Native.Nat.{ℕ, _+_, _-_, _≤_}
 use native.Mathlib.Omega.{arith}
-use mathlib.Core.Path.{_≡_, refl, sym, _∙_, ap, subst}
-use mathlib.Core.Bool.{Bool, true, false, _&&_}
+use mathlib.Core.Path.{_≡_, sym, _∙_, subst}
+use mathlib.Core.Bool.{true}
 use mathlib.Core.List.{List}
 use lib.ListN.{length}
 use borrow.Rule.Slice.PartMut.{midOf, mid-len}
 use Rattle.model.specs.declared.Answer.{Answer}
 use Rattle.model.specs.declared.Answer.the-variants.{Refused}
 use Rattle.model.specs.declared.Class.{Class}
-use Rattle.model.specs.declared.Settings.{Settings}
 use Rattle.model.specs.declared.Shares.{Shares}
-use Rattle.runs.specs.Turns.{Is, Reads}
 use Rattle.runs.proofs.Turns.{part-is}
-use Rattle.model.specs.Settings.{settings-of, settings-fit, words-needed}
+use Rattle.model.specs.Settings.{settings-of}
 use Rattle.model.specs.Class.{pick}
 use Rattle.model.specs.Book.{Held}
 use Rattle.model.specs.BookWords.{class-form}
-use Rattle.model.specs.Words.{State, state-form, class-start, class-width}
+use Rattle.model.specs.Words.{State, class-start}
 use Rattle.model.specs.Calls.{Call, settings-words-fit, codes-fit, step, refused, reply, held-in}
 use Rattle.model.proofs.Parts.{class-part}
 use Rattle.model.proofs.Bounds.{fit-shares}
@@ -25,7 +23,6 @@ use Rattle.book.specs.ClassRules.{ClassIs, ClassReads}
 use Rattle.book.proofs.Finding.{class-is}
 use Rattle.strikes.specs.declared.Span.{Span}
 use Rattle.strikes.specs.Admitted.{vets}
-use Rattle.strikes.specs.Calls.{Told}
 use Rattle.strikes.specs.Places.{SpanAt}
 use Rattle.strikes.proofs.Through.{Entered, lent, past-words, lent-part, read-part}
 use Rattle.strikes.proofs.Admitting.{OnBook, admitted-book, vets-fit}

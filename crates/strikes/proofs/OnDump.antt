@@ -1,27 +1,25 @@
 -- A dump: refused, or the bytes that the rules say.
-use Prim.Native.Nat.{ℕ, zero, suc, _+_, _-_, _*_, _<_, _≤_}
+use Prim.Native.Nat.{ℕ, _+_, _-_, _≤_}
 use native.Mathlib.Omega.{arith}
-use mathlib.Core.Path.{_≡_, refl, sym, _∙_, ap, subst}
-use mathlib.Core.Bool.{Bool, true, false, cond}
-use mathlib.Core.List.{List, [], _∷_, _++_}
-use lib.Dec.{ltb, eqb}
+use mathlib.Core.Path.{_≡_, sym, _∙_, ap, subst}
+use mathlib.Core.Bool.{Bool, false}
+use mathlib.Core.List.{List}
+use lib.Dec.{ltb}
 use lib.ListN.{length}
-use borrow.Author.Tests.{ltb-false, lt-ltb, le-ltb, ne-eqb}
+use borrow.Author.Tests.{ltb-false, ne-eqb}
 use borrow.Rule.Slice.PartMut.{midOf}
-use Rattle.model.specs.declared.Answer.{Answer}
 use Rattle.model.specs.declared.Answer.the-variants.{Refused, Dumped}
 use Rattle.model.specs.declared.Usable.{Usable}
 use Rattle.runs.proofs.Cases.{by-test}
 use Rattle.model.specs.Settings.{settings-of, usable-at}
 use Rattle.model.specs.Register.{Register}
 use Rattle.model.specs.RegisterWords.{register-form}
-use Rattle.model.specs.Words.{State, register-start}
 use Rattle.model.specs.Dump.{dump-bytes}
-use Rattle.model.specs.Calls.{DumpTo, Call, On, Late, late-deed, deed-fits, done-on, step, refused, reply, output-of, dumped-by, output-after, written-over, Refusal, refusal, first-met, register-at, held-in}
+use Rattle.model.specs.Calls.{DumpTo, On, late-deed, deed-fits, done-on, step, refused, reply, output-of, dumped-by, output-after, written-over, first-met, register-at, held-in}
 use Rattle.model.proofs.Parts.{register-part}
 use Rattle.numbers.specs.declared.starts.Place.{Place}
 use Rattle.numbers.specs.Places.{RegisterAt}
-use Rattle.register.specs.Words.{RegisterWords, RegisterReads}
+use Rattle.register.specs.Words.{RegisterReads}
 use Rattle.dumping.specs.Dumps.{Holds, Dumps}
 use Rattle.strikes.specs.Admitted.{admits, six-then-five, dump-refusal}
 use Rattle.strikes.specs.Calls.{ToldBytes}

@@ -1,26 +1,25 @@
 -- A call on one register: refused, or carried to its reply and words by what a function does to the register's part.
-use Prim.Native.Nat.{ℕ, zero, suc, _+_, _-_, _*_, _<_, _≤_}
+use Prim.Native.Nat.{ℕ, _+_, _-_, _≤_}
 use native.Mathlib.Omega.{arith}
-use mathlib.Core.Path.{_≡_, refl, sym, _∙_, ap, subst}
+use mathlib.Core.Path.{_≡_, sym, _∙_, ap, subst}
 use mathlib.Core.List.{List}
 use lib.ListN.{length}
 use borrow.Rule.Slice.PartMut.{midOf, putMid}
 use Rattle.model.specs.declared.Answer.{Answer}
 use Rattle.model.specs.declared.Answer.the-variants.{Refused}
 use Rattle.model.specs.declared.Usable.{Usable}
-use Rattle.runs.specs.Turns.{Turns, Reads}
-use Rattle.model.specs.Settings.{settings-of, usable-at, words-needed}
+use Rattle.model.specs.Settings.{settings-of, usable-at}
 use Rattle.model.specs.Register.{Register}
 use Rattle.model.specs.RegisterWords.{register-form}
-use Rattle.model.specs.Words.{State, state-form, register-start}
-use Rattle.model.specs.Calls.{Deed, Call, On, Late, never-late, late-deed, deed-fits, done-on, step, refused, reply, after, first-met, register-at, with-register, held-in}
+use Rattle.model.specs.Words.{State, register-start}
+use Rattle.model.specs.Calls.{Deed, On, never-late, late-deed, deed-fits, done-on, step, refused, reply, first-met, register-at, with-register, held-in}
 use Rattle.model.proofs.Parts.{register-part}
 use Rattle.numbers.specs.declared.starts.Place.{Place}
 use Rattle.numbers.specs.Places.{RegisterAt}
 use Rattle.register.specs.Words.{RegisterWords, RegisterReads, RegisterTurns}
 use Rattle.strikes.specs.Admitted.{admits}
 use Rattle.strikes.specs.Calls.{Told}
-use Rattle.strikes.proofs.Through.{Entered, refused-reply, through-part, read-part, replied}
+use Rattle.strikes.proofs.Through.{refused-reply, through-part, read-part}
 use Rattle.strikes.proofs.Admitting.{late-refusals, refused-early, Admitted, admitted}
 use Rattle.strikes.proofs.Placed.{register-lies}
 

@@ -1,28 +1,25 @@
 -- A restore or a resume: refused with 7 where the dump is cut short, or carried by what is done to all needed words.
-use Prim.Native.Nat.{ℕ, zero, suc, _+_, _-_, _*_, _/_, _<_, _≤_}
+use Prim.Native.Nat.{ℕ, _*_, _≤_}
 use native.Mathlib.Omega.{arith}
-use mathlib.Core.Path.{_≡_, refl, sym, _∙_, ap, subst}
-use mathlib.Core.Bool.{Bool, true, false, cond}
-use mathlib.Core.List.{List, [], _∷_}
-use mathlib.Core.Option.{Option, none, some}
+use mathlib.Core.Path.{_≡_, refl, _∙_, ap}
+use mathlib.Core.List.{List}
+use mathlib.Core.Option.{none, some}
 use lib.ListN.{length}
-use Rattle.model.specs.declared.Answer.{Answer}
 use Rattle.model.specs.declared.Answer.the-variants.{Refused}
 use Rattle.model.specs.declared.Settings.{Settings}
-use Rattle.model.specs.Settings.{settings-of, usable-at}
+use Rattle.model.specs.Settings.{settings-of}
 use Rattle.model.specs.Register.{Register}
 use Rattle.model.specs.Words.{State}
 use Rattle.model.specs.Dump.{words-of, read-dump}
-use Rattle.model.specs.Calls.{Deed, Restore, Resume, Call, On, Late, never-late, late-restore, is-cut, late-deed, deed-fits, restored, resumed, proven-of, after-restored, done-on, refused, first-met, register-at, held-in}
-use Rattle.dump.specs.declared.walk.Lengths.{Lengths}
+use Rattle.model.specs.Calls.{Deed, Restore, Resume, On, never-late, late-restore, is-cut, late-deed, deed-fits, restored, resumed, proven-of, after-restored, done-on, refused, first-met, register-at, held-in}
 use Rattle.dump.specs.declared.walk.Lengths.the-variants.{Cut, Read}
 use Rattle.dump.specs.Walk.{dump-at, dump-end, lengths-of, Whole}
 use Rattle.dump.proofs.Walks.{cut, whole}
-use Rattle.restoring.specs.Rules.{restored-whole, proven-to, resumed-whole}
+use Rattle.restoring.specs.Rules.{restored-whole, resumed-whole}
 use Rattle.strikes.specs.Admitted.{admits}
 use Rattle.strikes.specs.Calls.{Told, restore-answer}
 use Rattle.strikes.proofs.Through.{refused-reply}
-use Rattle.strikes.proofs.Admitting.{late-refusals, Admitted}
+use Rattle.strikes.proofs.Admitting.{late-refusals}
 use Rattle.strikes.proofs.OnRegister.{enters}
 
 -- ---- the lengths that were read

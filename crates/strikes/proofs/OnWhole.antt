@@ -1,32 +1,29 @@
 -- Calls on all needed words, `words[0..need]`, and on the front, `words[0..20]`.
-use Prim.Native.Nat.{ℕ, zero, suc, _+_, _-_, _*_, _<_, _≤_}
+use Prim.Native.Nat.{ℕ, _+_, _-_, _<_, _≤_}
 use native.Mathlib.Omega.{arith}
-use mathlib.Core.Path.{_≡_, refl, sym, _∙_, ap, subst}
-use mathlib.Core.Bool.{Bool, true, false, _&&_}
-use mathlib.Core.List.{List, [], _∷_, _++_, append-nil}
+use mathlib.Core.Path.{_≡_, refl, sym, _∙_, ap}
+use mathlib.Core.Bool.{true}
+use mathlib.Core.List.{List, [], _++_, append-nil}
 use lib.Dec.{eqb}
 use lib.ListN.{length, take, drop, drop-of-length-le}
 use lib.Seq.{take-all, length-take-le}
-use borrow.Author.Tests.{eqb-true, not-false}
-use borrow.Rule.Slice.PartMut.{midOf, putMid}
+use borrow.Author.Tests.{eqb-true}
 use Rattle.model.specs.declared.Answer.{Answer}
-use Rattle.model.specs.declared.Answer.the-variants.{Refused, Said}
+use Rattle.model.specs.declared.Answer.the-variants.{Refused}
 use Rattle.model.specs.declared.Settings.{Settings}
-use Rattle.model.specs.declared.Verdict.{Verdict}
-use Rattle.runs.specs.Turns.{Is, Turns}
+use Rattle.runs.specs.Turns.{Turns}
 use Rattle.runs.proofs.Cases.{both-true}
-use Rattle.runs.proofs.Parts.{Lies, Part}
+use Rattle.runs.proofs.Parts.{Part}
 use Rattle.runs.proofs.Turns.{part-is}
-use Rattle.model.specs.Settings.{settings-of, settings-fit, words-needed, limits-width}
-use Rattle.model.specs.Words.{State, Front, FrontOk, encode-front, front-form, state-form, of-state, state-of}
-use Rattle.model.specs.Judge.{Ask}
-use Rattle.model.specs.Calls.{Deed, Call, On, Late, never-late, late-deed, deed-fits, limits-words-fit, done-on, step, refused, reply, after, first-met, register-at, held-in, codes-fit}
+use Rattle.model.specs.Settings.{settings-of, words-needed, limits-width}
+use Rattle.model.specs.Words.{State, Front, FrontOk, encode-front, state-form}
+use Rattle.model.specs.Calls.{Deed, Call, On, never-late, late-deed, deed-fits, limits-words-fit, done-on, step, refused, first-met, register-at, held-in, codes-fit}
 use Rattle.model.proofs.Words.{state-exact, state-wide}
 use Rattle.model.proofs.Parts.{front-part, front-of, with-front}
 use Rattle.taking.specs.Words.{RunWords, StateTurns}
 use Rattle.strikes.specs.Admitted.{vets, admits}
 use Rattle.strikes.specs.Calls.{Told}
-use Rattle.strikes.proofs.Through.{Entered, lent, past-words, lent-form, lent-part, refused-reply, through-part}
+use Rattle.strikes.proofs.Through.{Entered, lent, past-words, lent-part, refused-reply, through-part}
 use Rattle.strikes.proofs.Admitting.{late-refusals, Admitted, admitted, OnBook, refused-book, admitted-book, vets-codes}
 
 -- all of it is a part of itself

@@ -1,20 +1,18 @@
 -- An opening: its refusals, and the words that it leaves.
-use Prim.Native.Nat.{ℕ, zero, suc, _+_, _-_, _*_, _<_, _≤_}
+use Prim.Native.Nat.{ℕ, _-_, _≤_}
 use native.Mathlib.Omega.{arith}
-use mathlib.Core.Path.{_≡_, refl, sym, _∙_, ap}
-use mathlib.Core.Bool.{Bool, true, false, cond, not, _&&_, _||_}
-use mathlib.Core.List.{List, [], _∷_, _++_}
-use lib.Dec.{leb, ltb, eqb}
+use mathlib.Core.Path.{_≡_, refl, sym, _∙_}
+use mathlib.Core.Bool.{true, false, _&&_}
+use mathlib.Core.List.{List, _++_}
+use lib.Dec.{ltb, eqb}
 use lib.ListN.{length, take, drop}
 use lib.Seq.{length-take-le}
-use borrow.Author.Tests.{ltb-false, not-false, eqb-true}
+use borrow.Author.Tests.{ltb-false, eqb-true}
 use Rattle.runs.proofs.Cases.{by-test, both-true}
-use Rattle.model.specs.declared.Answer.{Answer}
 use Rattle.model.specs.declared.Answer.the-variants.{Refused, Done}
-use Rattle.model.specs.declared.Settings.{Settings}
 use Rattle.model.specs.Settings.{settings-of, settings-fit, limits-of, words-needed}
 use Rattle.model.specs.Words.{state-form}
-use Rattle.model.specs.Calls.{Call, Open, Refusal, refusal, first-met, settings-words-fit, limits-words-fit, starts-fit, codes-fit, unfit, is-open, too-short, unsound, no-such-register, late, step, opened, refused, reply, after}
+use Rattle.model.specs.Calls.{Open, first-met, settings-words-fit, limits-words-fit, starts-fit, codes-fit, unfit, is-open, too-short, unsound, no-such-register, late, step, refused}
 use Rattle.opening.specs.Opened.{opened-with}
 use Rattle.opening.proofs.Laid.{opened-is}
 use Rattle.strikes.specs.Admitted.{opens}

@@ -1,25 +1,23 @@
 -- A register's place under settings in bounds, and the words that lie there.
 use Prim.Native.Nat.{ℕ, _+_, _-_, _<_}
 use native.Mathlib.Omega.{arith}
-use mathlib.Core.Path.{_≡_, refl, sym, _∙_, ap, subst}
+use mathlib.Core.Path.{_≡_, sym, _∙_, subst}
 use mathlib.Core.List.{List}
 use lib.ListN.{length}
 use borrow.Rule.Slice.PartMut.{midOf, mid-len}
 use Rattle.model.specs.declared.Usable.{Usable}
 use Rattle.model.specs.declared.Settings.{Settings}
-use Rattle.runs.specs.Form.{Form}
-use Rattle.runs.specs.Combine.{Both, both, free}
 use Rattle.runs.specs.Turns.{Is}
 use Rattle.runs.proofs.Turns.{part-is}
 use Rattle.model.specs.Settings.{usable-at}
 use Rattle.model.specs.RegisterWords.{register-form}
-use Rattle.model.specs.Words.{State, state-form, ring-width, register-width, register-start}
+use Rattle.model.specs.Words.{register-width, register-start}
 use Rattle.model.proofs.Parts.{register-part}
 use Rattle.model.proofs.Bounds.{fit-usable}
 use Rattle.numbers.specs.declared.starts.Place.{Place}
 use Rattle.numbers.specs.Places.{RegisterAt}
 use Rattle.register.specs.Words.{RegisterWords}
-use Rattle.strikes.proofs.Through.{Entered, lent, past-words, lent-form, lent-part}
+use Rattle.strikes.proofs.Through.{Entered, lent, past-words, lent-part}
 
 -- the words at a register's place are those of a well-formed register
 pub register-lies : (s : Settings) (ws : List ℕ) (r : ℕ) (p : Place) → Entered s ws → r < s .registers → RegisterAt s r p

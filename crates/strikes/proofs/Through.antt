@@ -1,26 +1,25 @@
 -- From a function on one part of the words to the reply and the words of a call that nothing refuses.
-use Prim.Native.Nat.{ℕ, zero, suc, _+_, _-_, _*_, _<_, _≤_}
+use Prim.Native.Nat.{ℕ, _+_, _-_, _≤_}
 use native.Mathlib.Omega.{arith}
-use mathlib.Core.Path.{_≡_, refl, sym, _∙_, ap, ap₂, subst}
-use mathlib.Core.Bool.{Bool, true, false, cond, not, _&&_, _||_}
-use mathlib.Core.List.{List, [], _∷_, _++_}
-use lib.Dec.{leb, ltb, eqb}
-use lib.ListN.{length, take, drop}
+use mathlib.Core.Path.{_≡_, refl, sym, _∙_, ap}
+use mathlib.Core.Bool.{true}
+use mathlib.Core.List.{List, _++_}
+use lib.ListN.{length, drop}
 use borrow.Author.Tests.{ne-eqb}
 use borrow.Rule.Slice.PartMut.{midOf, putMid}
 use Rattle.model.specs.declared.Answer.{Answer}
 use Rattle.model.specs.declared.Answer.the-variants.{Refused}
 use Rattle.model.specs.declared.Settings.{Settings}
-use Rattle.runs.specs.Form.{Form, Exact}
+use Rattle.runs.specs.Form.{Form}
 use Rattle.runs.specs.Combine.{Both, both, free}
-use Rattle.runs.specs.Turns.{Is, Turns, Reads}
-use Rattle.runs.proofs.Parts.{Lies, Part, head-part, in-part}
+use Rattle.runs.specs.Turns.{Turns, Reads}
+use Rattle.runs.proofs.Parts.{Part, head-part, in-part}
 use Rattle.runs.proofs.Turns.{part-turns, part-reads}
 use Rattle.model.specs.Settings.{settings-of, settings-fit, words-needed}
 use Rattle.model.specs.Words.{State, state-form}
-use Rattle.model.specs.Calls.{Call, Step, step, refused, reply, after, held-in, sound}
-use Rattle.model.proofs.Words.{state-exact, state-wide}
-use Rattle.model.proofs.View.{Holds, sound-holds}
+use Rattle.model.specs.Calls.{Call, step, refused, reply, after, held-in, sound}
+use Rattle.model.proofs.Words.{state-exact}
+use Rattle.model.proofs.View.{sound-holds}
 
 -- the needed words, and k words past them
 abbrev pub lent-form : Settings → ℕ → Form (Both State (List ℕ))

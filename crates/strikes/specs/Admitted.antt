@@ -7,7 +7,7 @@ use lib.ListN.{length}
 use Rattle.model.specs.Settings.{settings-of, words-needed}
 use Rattle.model.specs.Register.{Register}
 use Rattle.model.specs.Dump.{dump-bytes}
-use Rattle.model.specs.Calls.{Refusal, refusal, first-met, settings-words-fit, limits-words-fit, starts-fit, too-short, sound}
+use Rattle.model.specs.Calls.{refusal, first-met, settings-words-fit, limits-words-fit, starts-fit, too-short, sound}
 
 -- 1, 2 and 3, for a call whose own codes are listed or not
 unfoldable pub vets : List ℕ → List ℕ → Bool → ℕ

@@ -1,5 +1,5 @@
 -- An answer as numbers, and what an entry point lets out of it.
-use Prim.Native.Nat.{ℕ, zero, suc, _<_, _≤_}
+use Prim.Native.Nat.{ℕ, suc, _<_, _≤_}
 use native.Mathlib.Omega.{arith}
 use mathlib.Core.Path.{_≡_, refl, sym, _∙_, ap}
 use mathlib.Core.List.{List, [], _∷_}
@@ -7,7 +7,7 @@ use lib.ListN.{length, getD, take, length-take, List·getD-eq-default}
 use lib.Seq.{getD-take}
 use Rattle.model.specs.declared.Answer.{Answer}
 use Rattle.model.specs.Codes.{answer-number, answer-values}
-use Rattle.model.specs.Calls.{Call, reply, after}
+use Rattle.model.specs.Calls.{Call, reply}
 use Rattle.strikes.specs.Calls.{Told, ToldBytes}
 use Rattle.strikes_c.specs.declared.sent.Sent.{Sent}
 use Rattle.strikes_c.specs.Out.{value-out, values-out, Returned, Read, Written, values-of, SentAs}

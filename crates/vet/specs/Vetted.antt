@@ -1,10 +1,10 @@
 -- The refusals that settings and words cause by themselves, whatever the call: the first three of the model's list.
 use Prim.Native.Nat.{ℕ}
-use mathlib.Core.Bool.{Bool, not}
+use mathlib.Core.Bool.{not}
 use mathlib.Core.List.{List, [], _∷_}
 use lib.Dec.{ltb}
 use Rattle.model.specs.Settings.{settings-of, words-needed}
-use Rattle.model.specs.Calls.{Refusal, refusal, first-met, settings-words-fit, too-short, sound}
+use Rattle.model.specs.Calls.{refusal, first-met, settings-words-fit, too-short, sound}
 
 -- 1 and 2, of so many words
 unfoldable pub vetted-opening : List ℕ → ℕ → ℕ

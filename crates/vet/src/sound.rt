@@ -14,7 +14,7 @@ ghost use lib.ListN.{length};
 ghost use Rattle.runs.specs.Combine.{both, free};
 ghost use Rattle.model.specs.Settings.{settings-fit, usable-fit, words-needed};
 ghost use Rattle.model.specs.RegisterWords.{each-form, ring-form, register-form, heading-sound as heading-rule};
-ghost use Rattle.model.specs.Words.{front-sound as front-rule, book-form, registers-form, unused-width, state-form, class-width, ring-width, register-width};
+ghost use Rattle.model.specs.Words.{front-sound as front-rule, book-form, registers-form, unused-width, class-width, ring-width, register-width};
 ghost use Rattle.model.specs.Calls.{sound};
 
 // The front: it keeps the settings that are handed in, its limits are in bounds, and the closed flag is a flag.

@@ -10,12 +10,6 @@ use mathlib.Core.Path.{_≡_, ap, _∙_}
 use native.Mathlib.Omega.{arith}
 use Rattle.book.proofs.draw.Statement.{statement}
 use Rattle.book.proofs.draw.Tie as tie
-use Rattle.book.proofs.draw.Reads as reads
-use Rattle.book.proofs.draw.Lts as lts
-use Rattle.book.proofs.decide.if_none.Reads as if-none-reads
-use Rattle.book.proofs.decide.judge.Reads as judge-reads
-use Rattle.book.proofs.decide.place_units.Reads as place-units-reads
-use Rattle.book.proofs.decide.room.Reads as room-reads
 
 -- src/lib.rt:87:9
 place-units-requires : tie.Need-place-units-requires

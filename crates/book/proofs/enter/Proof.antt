@@ -1,19 +1,10 @@
 use Rattle.book.proofs.Entering.{enters, take-asks}
 use Rattle.book.specs.Pairs.{before}
 use Rattle.book.specs.Rules.{if-none}
-use Rattle.model.specs.Book.{place-units, enter}
+use Rattle.model.specs.Book.{place-units}
 use borrow.Author.Needs.{needs}
-use lib.ListN.{take}
 use Rattle.book.proofs.enter.Statement.{statement}
 use Rattle.book.proofs.enter.Tie as tie
-use Rattle.book.proofs.enter.Reads as reads
-use Rattle.book.proofs.enter.Lts as lts
-use Rattle.book.proofs.decide.if_none.Reads as if-none-reads
-use Rattle.book.proofs.decide.place_units.Reads as place-units-reads
-use Rattle.book.proofs.enter_place.Reads as enter-place-reads
-use Rattle.book.proofs.totals.read.Reads as read-reads
-use Rattle.book.proofs.totals.lent_to_take.Reads as lent-to-take-reads
-use Rattle.book.proofs.totals.write.Reads as write-reads
 
 -- src/lib.rt:121:9
 place-units-requires : tie.Need-place-units-requires

@@ -4,13 +4,6 @@ use Rattle.book.proofs.Entering.{enters-new, raise-asks, enters-listed,
 use borrow.Author.Needs.{needs}
 use Rattle.book.proofs.enter_place.Statement.{statement}
 use Rattle.book.proofs.enter_place.Tie as tie
-use Rattle.book.proofs.enter_place.Reads as reads
-use Rattle.book.proofs.enter_place.Lts as lts
-use Rattle.book.proofs.place.insert.Reads as insert-reads
-use Rattle.book.proofs.place.open.Reads as open-reads
-use Rattle.book.proofs.place.raise.Reads as raise-reads
-use Rattle.numbers.proofs.starts.place_start.Reads as place-start-reads
-use Rattle.numbers.proofs.starts.place_width.Reads as place-width-reads
 
 -- src/lib.rt:128:9
 place-start-requires : tie.Need-place-start-requires

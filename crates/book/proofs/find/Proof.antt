@@ -5,12 +5,6 @@ use Rattle.book.proofs.Finding.{in-part, part-wide, found-none, found-h
 use borrow.Author.Needs.{needs}
 use Rattle.book.proofs.find.Statement.{statement}
 use Rattle.book.proofs.find.Tie as tie
-use Rattle.book.proofs.find.Reads as reads
-use Rattle.book.proofs.find.Lts as lts
-use Rattle.book.proofs.find_place.Reads as find-place-reads
-use Rattle.book.proofs.place.look.Reads as look-reads
-use Rattle.numbers.proofs.starts.place_start.Reads as place-start-reads
-use Rattle.numbers.proofs.starts.place_width.Reads as place-width-reads
 
 -- src/lib.rt:63:9
 find-place-requires : tie.Need-find-place-requires

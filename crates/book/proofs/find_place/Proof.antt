@@ -7,10 +7,6 @@ use lib.ListN.{getD}
 use Prim.Native.Nat.{_-_}
 use Rattle.book.proofs.find_place.Statement.{statement}
 use Rattle.book.proofs.find_place.Tie as tie
-use Rattle.book.proofs.find_place.Reads as reads
-use Rattle.book.proofs.find_place.Lts as lts
-use Rattle.book.proofs.place.names.Reads as names-reads
-use Rattle.numbers.proofs.starts.place_start.Reads as place-start-reads
 
 abbrev Inv-loop : tie.InvT-loop
 Inv-loop part shares who holders i₀ i = (w : ClassIs shares (class-of who) part) → Seeking shares who part w i

@@ -5,10 +5,6 @@ use Rattle.book.proofs.Entering.{held-none, held-here}
 use borrow.Author.Needs.{needs}
 use Rattle.book.proofs.held_by.Statement.{statement}
 use Rattle.book.proofs.held_by.Tie as tie
-use Rattle.book.proofs.held_by.Reads as reads
-use Rattle.book.proofs.held_by.Lts as lts
-use Rattle.book.proofs.find_place.Reads as find-place-reads
-use Rattle.numbers.proofs.starts.place_start.Reads as place-start-reads
 
 -- src/lib.rt:181:9
 find-place-requires : tie.Need-find-place-requires

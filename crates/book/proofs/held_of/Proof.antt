@@ -1,11 +1,7 @@
 use Rattle.book.proofs.Entering.{held-totals}
-use Rattle.runs.specs.Turns.{Reads}
 use borrow.Author.Needs.{needs}
 use Rattle.book.proofs.held_of.Statement.{statement}
 use Rattle.book.proofs.held_of.Tie as tie
-use Rattle.book.proofs.held_of.Reads as reads
-use Rattle.book.proofs.held_of.Lts as lts
-use Rattle.book.proofs.totals.read.Reads as read-reads
 
 -- src/lib.rt:163:5
 read-requires : tie.Need-read-requires

@@ -4,14 +4,6 @@ use Rattle.book.proofs.Returning.{closes, count-asks, remove-asks, lowe
 use borrow.Author.Needs.{needs}
 use Rattle.book.proofs.return_place.Statement.{statement}
 use Rattle.book.proofs.return_place.Tie as tie
-use Rattle.book.proofs.return_place.Reads as reads
-use Rattle.book.proofs.return_place.Lts as lts
-use Rattle.book.proofs.moves.close_up.Reads as close-up-reads
-use Rattle.book.proofs.place.count.Reads as count-reads
-use Rattle.book.proofs.place.lower.Reads as lower-reads
-use Rattle.book.proofs.place.remove.Reads as remove-reads
-use Rattle.numbers.proofs.starts.place_start.Reads as place-start-reads
-use Rattle.numbers.proofs.starts.place_width.Reads as place-width-reads
 
 -- src/lib.rt:203:19
 slice-read-holders : tie.Need-slice-read-holders

@@ -4,16 +4,9 @@ use Rattle.book.specs.Sums.{taken}
 use Rattle.model.specs.Book.{enter}
 use borrow.Author.Needs.{needs}
 use borrow.Author.Tests.{not-true, not-false}
-use lib.ListN.{take}
 use mathlib.Core.Path.{sym, _∙_}
 use Rattle.book.proofs.take.Statement.{statement}
 use Rattle.book.proofs.take.Tie as tie
-use Rattle.book.proofs.take.Reads as reads
-use Rattle.book.proofs.take.Lts as lts
-use Rattle.book.proofs.decide.is_granted.Reads as is-granted-reads
-use Rattle.book.proofs.draw.Reads as draw-reads
-use Rattle.book.proofs.enter.Reads as enter-reads
-use Rattle.book.proofs.find.Reads as find-reads
 
 -- src/lib.rt:135:9
 find-requires : tie.Need-find-requires

@@ -8,15 +8,6 @@ use borrow.Author.Needs.{needs}
 use borrow.Author.Tests.{not-true, not-false}
 use Rattle.book.proofs.untake.Statement.{statement}
 use Rattle.book.proofs.untake.Tie as tie
-use Rattle.book.proofs.untake.Reads as reads
-use Rattle.book.proofs.untake.Lts as lts
-use Rattle.book.proofs.decide.if_one.Reads as if-one-reads
-use Rattle.book.proofs.decide.place_units.Reads as place-units-reads
-use Rattle.book.proofs.find.Reads as find-reads
-use Rattle.book.proofs.return_place.Reads as return-place-reads
-use Rattle.book.proofs.totals.read.Reads as read-reads
-use Rattle.book.proofs.totals.lent_to_untake.Reads as lent-to-untake-reads
-use Rattle.book.proofs.totals.write.Reads as write-reads
 
 -- src/lib.rt:194:9
 find-requires : tie.Need-find-requires

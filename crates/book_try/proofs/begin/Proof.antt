@@ -1,13 +1,8 @@
 use Rattle.book.specs.Pairs.{before}
 use Rattle.book_try.proofs.Kept.{starts}
-use Rattle.model.specs.Register.{begin}
-use Rattle.runs.specs.Turns.{Reads}
 use borrow.Author.Needs.{needs}
 use Rattle.book_try.proofs.begin.Statement.{statement}
 use Rattle.book_try.proofs.begin.Tie as tie
-use Rattle.book_try.proofs.begin.Reads as reads
-use Rattle.book_try.proofs.begin.Lts as lts
-use Rattle.runs.proofs.clear_words.Reads as clear-words-reads
 
 -- src/main.rt:51:5
 clear-words-requires : tie.Need-clear-words-requires

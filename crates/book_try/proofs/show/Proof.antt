@@ -1,13 +1,8 @@
 use Prim.Native.Nat.{_-_, _≤_}
-use Rattle.runs.specs.Turns.{Reads}
 use borrow.Author.Needs.{needs}
 use lib.ListN.{length}
 use Rattle.book_try.proofs.show.Statement.{statement}
 use Rattle.book_try.proofs.show.Tie as tie
-use Rattle.book_try.proofs.show.Reads as reads
-use Rattle.book_try.proofs.show.Lts as lts
-use Rattle.book_try.proofs.print.Reads as print-reads
-use Rattle.io.proofs.write_all.Reads as write-all-reads
 
 abbrev Inv-loop : tie.InvT-loop
 Inv-loop words i₀ i = i ≤ length words

@@ -1,15 +1,9 @@
 use Rattle.book.specs.Pairs.{before}
 use Rattle.book_try.proofs.Kept.{take-asks, take-keeps}
-use Rattle.runs.specs.Turns.{Reads}
 use borrow.Author.Needs.{needs}
 use lib.ListN.{take}
 use Rattle.book_try.proofs.take.Statement.{statement}
 use Rattle.book_try.proofs.take.Tie as tie
-use Rattle.book_try.proofs.take.Reads as reads
-use Rattle.book_try.proofs.take.Lts as lts
-use Rattle.book.proofs.take.Reads as take-reads
-use Rattle.book_try.proofs.number_of.Reads as number-of-reads
-use Rattle.book_try.proofs.print.Reads as print-reads
 
 -- src/main.rt:72:9
 take-requires : tie.Need-take-requires

@@ -2,16 +2,11 @@ use Rattle.model.specs.declared.Class.the-variants.{Feeders}
 use Prim.Native.Nat.{_-_, _≤_}
 use Rattle.book.specs.ClassRules.{ClassIs}
 use Rattle.book_try.specs.Fixed.{fixed}
-use Rattle.runs.specs.Turns.{Reads}
 use borrow.Author.Needs.{needs}
-use lib.ListN.{length, take}
+use lib.ListN.{length}
 use mathlib.Core.Path.{_≡_}
 use Rattle.book_try.proofs.takes.Statement.{statement}
 use Rattle.book_try.proofs.takes.Tie as tie
-use Rattle.book_try.proofs.takes.Reads as reads
-use Rattle.book_try.proofs.takes.Lts as lts
-use Rattle.book_try.proofs.show.Reads as show-reads
-use Rattle.book_try.proofs.take.Reads as take-reads
 
 abbrev Inv-loop : tie.InvT-loop
 Inv-loop words₀ id second times i₀ words i = (length words ≡ length words₀) × (i ≤ times) × ClassIs fixed Feeders words

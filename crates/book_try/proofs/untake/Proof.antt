@@ -1,12 +1,8 @@
 use Rattle.book.specs.Pairs.{before}
 use Rattle.book_try.proofs.Kept.{asks, untake-keeps}
-use Rattle.runs.specs.Turns.{Reads}
 use borrow.Author.Needs.{needs}
 use Rattle.book_try.proofs.untake.Statement.{statement}
 use Rattle.book_try.proofs.untake.Tie as tie
-use Rattle.book_try.proofs.untake.Reads as reads
-use Rattle.book_try.proofs.untake.Lts as lts
-use Rattle.book.proofs.untake.Reads as untake-reads
 
 -- src/main.rt:94:5
 untake-requires : tie.Need-untake-requires

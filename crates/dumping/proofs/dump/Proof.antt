@@ -1,12 +1,7 @@
-use Rattle.dumping.proofs.Writes.{few, may-walk, counted, has-room, wrote}
-use native.Mathlib.Omega.{arith}
+use Rattle.dumping.proofs.Writes.{few, may-walk, has-room, wrote}
 use borrow.Author.Needs.{needs}
 use Rattle.dumping.proofs.dump.Statement.{statement}
 use Rattle.dumping.proofs.dump.Tie as tie
-use Rattle.dumping.proofs.dump.Reads as reads
-use Rattle.dumping.proofs.dump.Lts as lts
-use Rattle.dump.proofs.put_dump.Reads as put-dump-reads
-use Rattle.numbers.proofs.spans.ring_of.Reads as ring-of-reads
 
 -- src/lib.rt:26:16
 ring-of-requires : tie.Need-ring-of-requires

@@ -1,12 +1,7 @@
 use Rattle.dumping.proofs.Writes.{few, may-walk, counted}
-use native.Mathlib.Omega.{arith}
 use borrow.Author.Needs.{needs}
 use Rattle.dumping.proofs.dump_length.Statement.{statement}
 use Rattle.dumping.proofs.dump_length.Tie as tie
-use Rattle.dumping.proofs.dump_length.Reads as reads
-use Rattle.dumping.proofs.dump_length.Lts as lts
-use Rattle.dump.proofs.dump_length.Reads as dump-length-reads
-use Rattle.numbers.proofs.spans.ring_of.Reads as ring-of-reads
 
 -- src/lib.rt:16:16
 ring-of-requires : tie.Need-ring-of-requires

@@ -2,12 +2,6 @@ use Rattle.expiring.proofs.Passing.{second-low, all-done}
 use borrow.Author.Needs.{needs}
 use Rattle.expiring.proofs.expire.Statement.{statement}
 use Rattle.expiring.proofs.expire.Tie as tie
-use Rattle.expiring.proofs.expire.Reads as reads
-use Rattle.expiring.proofs.expire.Lts as lts
-use Rattle.expiring.proofs.expire_class.Reads as expire-class-reads
-use Rattle.numbers.proofs.capped.capped_to_32.Reads as capped-to-32-reads
-use Rattle.numbers.proofs.capped.ceil_div.Reads as ceil-div-reads
-use Rattle.taking.proofs.least_published.Reads as least-published-reads
 
 -- src/lib.rt:29:9
 least-published-requires : tie.Need-least-published-requires

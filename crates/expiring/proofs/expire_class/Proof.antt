@@ -6,11 +6,6 @@ use Rattle.model.proofs.Bounds.{fit-shares}
 use borrow.Author.Needs.{needs}
 use Rattle.expiring.proofs.expire_class.Statement.{statement}
 use Rattle.expiring.proofs.expire_class.Tie as tie
-use Rattle.expiring.proofs.expire_class.Reads as reads
-use Rattle.expiring.proofs.expire_class.Lts as lts
-use Rattle.expiry.proofs.expire.Reads as expire-reads
-use Rattle.numbers.proofs.starts.class_start.Reads as class-start-reads
-use Rattle.numbers.proofs.starts.class_width.Reads as class-width-reads
 
 -- src/lib.rt:19:9
 class-start-requires : tie.Need-class-start-requires

@@ -2,13 +2,6 @@ use Rattle.expiry.proofs.Ended.{noted, waits, moves-on}
 use borrow.Author.Needs.{needs}
 use Rattle.expiry.proofs.expire.Statement.{statement}
 use Rattle.expiry.proofs.expire.Tie as tie
-use Rattle.expiry.proofs.expire.Reads as reads
-use Rattle.expiry.proofs.expire.Lts as lts
-use Rattle.book.proofs.totals.lent_to_expire.Reads as lent-to-expire-reads
-use Rattle.book.proofs.totals.read.Reads as read-reads
-use Rattle.book.proofs.totals.write.Reads as write-reads
-use Rattle.numbers.proofs.capped.capped_to_32.Reads as capped-to-32-reads
-use Rattle.expiry.proofs.expire_pairs.Reads as expire-pairs-reads
 
 -- src/lib.rt:124:19
 slice-read-expired : tie.Need-slice-read-expired

@@ -3,14 +3,6 @@ use native.Mathlib.Omega.{arith}
 use borrow.Author.Needs.{needs}
 use Rattle.expiry.proofs.expire_pairs.Statement.{statement}
 use Rattle.expiry.proofs.expire_pairs.Tie as tie
-use Rattle.expiry.proofs.expire_pairs.Reads as reads
-use Rattle.expiry.proofs.expire_pairs.Lts as lts
-use Rattle.book.proofs.totals.lent_to_expire.Reads as lent-to-expire-reads
-use Rattle.book.proofs.totals.read.Reads as read-reads
-use Rattle.book.proofs.totals.write.Reads as write-reads
-use Rattle.expiry.proofs.expire_places.Reads as expire-places-reads
-use Rattle.numbers.proofs.starts.place_start.Reads as place-start-reads
-use Rattle.runs.proofs.clear_words.Reads as clear-words-reads
 
 -- src/lib.rt:90:9
 read-requires : tie.Need-read-requires

@@ -3,13 +3,6 @@ use Rattle.expiry.proofs.Walked.{asks-expire, asks-with, place-goes, pl
 use borrow.Author.Needs.{needs}
 use Rattle.expiry.proofs.expire_place.Statement.{statement}
 use Rattle.expiry.proofs.expire_place.Tie as tie
-use Rattle.expiry.proofs.expire_place.Reads as reads
-use Rattle.expiry.proofs.expire_place.Lts as lts
-use Rattle.book.proofs.moves.move_down.Reads as move-down-reads
-use Rattle.book.proofs.place.expire.Reads as expire-reads
-use Rattle.expiry.proofs.with_place.Reads as with-place-reads
-use Rattle.numbers.proofs.starts.place_start.Reads as place-start-reads
-use Rattle.numbers.proofs.starts.place_width.Reads as place-width-reads
 
 -- src/lib.rt:54:9
 place-start-requires : tie.Need-place-start-requires

@@ -7,9 +7,6 @@ use Rattle.expiry.specs.Walks.{Walking}
 use Rattle.expiry.proofs.Ended.{starts, stands, on}
 use Rattle.expiry.proofs.expire_places.Statement.{statement}
 use Rattle.expiry.proofs.expire_places.Tie as tie
-use Rattle.expiry.proofs.expire_places.Reads as reads
-use Rattle.expiry.proofs.expire_places.Lts as lts
-use Rattle.expiry.proofs.expire_place.Reads as expire-place-reads
 
 abbrev Inv-loop : tie.InvT-loop
 Inv-loop part₀ shares class t holders kept₀ i₀ part kept i = (length part ≡ length part₀) × (i ≤ getD part₀ 1 0) × Walking shares class t part₀ i kept part

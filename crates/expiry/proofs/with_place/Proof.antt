@@ -2,9 +2,6 @@ use lib.ListN.{getD}
 use borrow.Author.Needs.{needs}
 use Rattle.expiry.proofs.with_place.Statement.{statement}
 use Rattle.expiry.proofs.with_place.Tie as tie
-use Rattle.expiry.proofs.with_place.Reads as reads
-use Rattle.expiry.proofs.with_place.Lts as lts
-use Rattle.numbers.proofs.units.units_of.Reads as units-of-reads
 
 -- src/lib.rt:33:19
 shared-slice-read-entries : tie.Need-shared-slice-read-entries

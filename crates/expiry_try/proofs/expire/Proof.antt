@@ -2,13 +2,6 @@ use borrow.Author.Tests.{not-false}
 use borrow.Author.Needs.{needs}
 use Rattle.expiry_try.proofs.expire.Statement.{statement}
 use Rattle.expiry_try.proofs.expire.Tie as tie
-use Rattle.expiry_try.proofs.expire.Reads as reads
-use Rattle.expiry_try.proofs.expire.Lts as lts
-use Rattle.expiry.proofs.expire.Reads as expire-reads
-use Rattle.expiry_try.proofs.is_class.Reads as is-class-reads
-use Rattle.expiry_try.proofs.print_test.Reads as print-test-reads
-use Rattle.expiry_try.proofs.shares.Reads as shares-reads
-use Rattle.expiry_try.proofs.show.Reads as show-reads
 
 -- src/main.rt:80:9
 is-class-requires : tie.Need-is-class-requires

@@ -4,10 +4,6 @@ use Rattle.runs.proofs.Cases.{no}
 use borrow.Author.Needs.{needs}
 use Rattle.expiry_try.proofs.is_class.Statement.{statement}
 use Rattle.expiry_try.proofs.is_class.Tie as tie
-use Rattle.expiry_try.proofs.is_class.Reads as reads
-use Rattle.expiry_try.proofs.is_class.Lts as lts
-use Rattle.audit.proofs.class_sound.Reads as class-sound-reads
-use Rattle.expiry_try.proofs.shares.Reads as shares-reads
 
 -- src/main.rt:61:9
 returns : tie.Need-returns

@@ -3,10 +3,6 @@ use lib.ListN.{length}
 use borrow.Author.Needs.{needs}
 use Rattle.expiry_try.proofs.show.Statement.{statement}
 use Rattle.expiry_try.proofs.show.Tie as tie
-use Rattle.expiry_try.proofs.show.Reads as reads
-use Rattle.expiry_try.proofs.show.Lts as lts
-use Rattle.expiry_try.proofs.end_line.Reads as end-line-reads
-use Rattle.expiry_try.proofs.print.Reads as print-reads
 
 abbrev Inv-loop : tie.InvT-loop
 Inv-loop words i₀ i = i ≤ length words

@@ -5,10 +5,6 @@ use lib.ListN.{length, length-set, set}
 use borrow.Author.Needs.{needs}
 use Rattle.expiry_try.proofs.wrapped.Statement.{statement}
 use Rattle.expiry_try.proofs.wrapped.Tie as tie
-use Rattle.expiry_try.proofs.wrapped.Reads as reads
-use Rattle.expiry_try.proofs.wrapped.Lts as lts
-use Rattle.expiry_try.proofs.is_class.Reads as is-class-reads
-use Rattle.expiry_try.proofs.print_test.Reads as print-test-reads
 
 -- src/main.rt:80:17
 slice-read-first : tie.Need-slice-read-first

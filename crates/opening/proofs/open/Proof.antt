@@ -3,11 +3,6 @@ use Rattle.opening.proofs.Laid.{front-within, opened-run}
 use borrow.Author.Needs.{needs}
 use Rattle.opening.proofs.open.Statement.{statement}
 use Rattle.opening.proofs.open.Tie as tie
-use Rattle.opening.proofs.open.Reads as reads
-use Rattle.opening.proofs.open.Lts as lts
-use Rattle.opening.proofs.write_front.Reads as write-front-reads
-use Rattle.opening.proofs.write_registers.Reads as write-registers-reads
-use Rattle.runs.proofs.clear_words.Reads as clear-words-reads
 
 -- src/lib.rt:145:5
 clear-words-requires : tie.Need-clear-words-requires

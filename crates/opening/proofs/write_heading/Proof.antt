@@ -4,12 +4,6 @@ use mathlib.Core.Path.{_∙_}
 use borrow.Author.Needs.{needs}
 use Rattle.opening.proofs.write_heading.Statement.{statement}
 use Rattle.opening.proofs.write_heading.Tie as tie
-use Rattle.opening.proofs.write_heading.Reads as reads
-use Rattle.opening.proofs.write_heading.Lts as lts
-use Rattle.opening.proofs.floor_of.Reads as floor-of-reads
-use Rattle.opening.proofs.has_floor.Reads as has-floor-reads
-use Rattle.opening.proofs.is_pending.Reads as is-pending-reads
-use Rattle.runs.proofs.copy_words.Reads as copy-words-reads
 
 -- src/lib.rt:84:9
 has-floor-requires : tie.Need-has-floor-requires

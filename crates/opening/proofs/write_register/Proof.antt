@@ -3,12 +3,6 @@ use Rattle.opening.proofs.Steps.{register-words}
 use borrow.Author.Needs.{needs}
 use Rattle.opening.proofs.write_register.Statement.{statement}
 use Rattle.opening.proofs.write_register.Tie as tie
-use Rattle.opening.proofs.write_register.Reads as reads
-use Rattle.opening.proofs.write_register.Lts as lts
-use Rattle.numbers.proofs.bounds.usable_in.Reads as usable-in-reads
-use Rattle.numbers.proofs.codes.start_of.Reads as start-of-reads
-use Rattle.numbers.proofs.starts.register_start.Reads as register-start-reads
-use Rattle.opening.proofs.write_heading.Reads as write-heading-reads
 
 -- src/lib.rt:121:9
 register-start-requires : tie.Need-register-start-requires

@@ -6,9 +6,6 @@ use Rattle.model.proofs.Words.{registers≤4}
 use Rattle.opening.proofs.Steps.{Headed, headed-none, headed-more, headed-all}
 use Rattle.opening.proofs.write_registers.Statement.{statement}
 use Rattle.opening.proofs.write_registers.Tie as tie
-use Rattle.opening.proofs.write_registers.Reads as reads
-use Rattle.opening.proofs.write_registers.Lts as lts
-use Rattle.opening.proofs.write_register.Reads as write-register-reads
 
 abbrev Inv-loop : tie.InvT-loop
 Inv-loop run₀ s starts most r₀ run r = Headed s starts run₀ run r

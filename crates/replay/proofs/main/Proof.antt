@@ -5,9 +5,6 @@ use lib.ListN.{length-replicate}
 use borrow.Author.Needs.{needs}
 use Rattle.replay.proofs.main.Statement.{statement}
 use Rattle.replay.proofs.main.Tie as tie
-use Rattle.replay.proofs.main.Reads as reads
-use Rattle.replay.proofs.main.Lts as lts
-use Rattle.replay.proofs.input.replay.Reads as replay-reads
 
 slice-aggregate-replay : tie.Need-slice-aggregate-replay
 slice-aggregate-replay c = sym (length-replicate {A = ℕ} 1638400 0)

@@ -4,9 +4,6 @@ use Rattle.restoring.proofs.Dumps.{restore-turns}
 use borrow.Author.Needs.{needs}
 use Rattle.restoring.proofs.restore.Statement.{statement}
 use Rattle.restoring.proofs.restore.Tie as tie
-use Rattle.restoring.proofs.restore.Reads as reads
-use Rattle.restoring.proofs.restore.Lts as lts
-use Rattle.restoring.proofs.restore_dump.Reads as restore-dump-reads
 
 place-of-requires : tie.Need-place-of-requires
 place-of-requires c κs = search needs

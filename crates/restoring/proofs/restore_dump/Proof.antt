@@ -5,11 +5,6 @@ use Rattle.restoring.proofs.Dumps.{dump-acts}
 use borrow.Author.Needs.{needs}
 use Rattle.restoring.proofs.restore_dump.Statement.{statement}
 use Rattle.restoring.proofs.restore_dump.Tie as tie
-use Rattle.restoring.proofs.restore_dump.Reads as reads
-use Rattle.restoring.proofs.restore_dump.Lts as lts
-use Rattle.dump.proofs.floor_word.Reads as floor-word-reads
-use Rattle.restoring.proofs.classes.restore_class.Reads as restore-class-reads
-use Rattle.restoring.proofs.leaves.raise_to_dumped.Reads as raise-to-dumped-reads
 
 -- src/lib.rt:22:9
 floor-word-requires : tie.Need-floor-word-requires

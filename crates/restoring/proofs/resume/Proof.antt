@@ -5,11 +5,6 @@ use Rattle.restoring.proofs.Dumps.{resume-plain, resume-proven}
 use borrow.Author.Needs.{needs}
 use Rattle.restoring.proofs.resume.Statement.{statement}
 use Rattle.restoring.proofs.resume.Tie as tie
-use Rattle.restoring.proofs.resume.Reads as reads
-use Rattle.restoring.proofs.resume.Lts as lts
-use Rattle.restoring.proofs.leaves.forget_floor.Reads as forget-floor-reads
-use Rattle.restoring.proofs.leaves.raise_floor.Reads as raise-floor-reads
-use Rattle.restoring.proofs.restore_dump.Reads as restore-dump-reads
 
 place-of-requires : tie.Need-place-of-requires
 place-of-requires c κs = search needs

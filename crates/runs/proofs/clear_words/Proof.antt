@@ -9,8 +9,6 @@ use borrow.Author.Fill.{fill-more}
 use Rattle.runs.proofs.Loops.{clear-end}
 use Rattle.runs.proofs.clear_words.Statement.{statement}
 use Rattle.runs.proofs.clear_words.Tie as tie
-use Rattle.runs.proofs.clear_words.Reads as reads
-use Rattle.runs.proofs.clear_words.Lts as lts
 
 abbrev Inv-loop : tie.InvT-loop
 Inv-loop dst₀ i₀ dst i = (length dst ≡ length dst₀) × (i ≤ length dst₀) × (dst ≡ replicate i 0 ++ drop i dst₀)

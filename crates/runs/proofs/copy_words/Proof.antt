@@ -8,8 +8,6 @@ use borrow.Author.Needs.{needs}
 use Rattle.runs.proofs.Loops.{copy-on, copy-end}
 use Rattle.runs.proofs.copy_words.Statement.{statement}
 use Rattle.runs.proofs.copy_words.Tie as tie
-use Rattle.runs.proofs.copy_words.Reads as reads
-use Rattle.runs.proofs.copy_words.Lts as lts
 
 abbrev Inv-loop : tie.InvT-loop
 Inv-loop dst₀ src i₀ dst i = (length dst ≡ length dst₀) × (i ≤ length src) × (take i dst ++ drop i src ≡ src)

@@ -10,8 +10,6 @@ use Rattle.runs.proofs.Words.{same-long}
 use Rattle.runs.proofs.Loops.{same-on, same-end}
 use Rattle.runs.proofs.same_words.Statement.{statement}
 use Rattle.runs.proofs.same_words.Tie as tie
-use Rattle.runs.proofs.same_words.Reads as reads
-use Rattle.runs.proofs.same_words.Lts as lts
 
 abbrev Inv-loop : tie.InvT-loop
 Inv-loop a b all₀ i₀ all i = (i ≤ length a) × ((all && sameWords (drop i a) (drop i b)) ≡ sameWords a b)

@@ -9,8 +9,6 @@ use Rattle.runs.specs.Words.{zeros}
 use Rattle.runs.proofs.Loops.{zeros-on, zeros-end}
 use Rattle.runs.proofs.zeros_only.Statement.{statement}
 use Rattle.runs.proofs.zeros_only.Tie as tie
-use Rattle.runs.proofs.zeros_only.Reads as reads
-use Rattle.runs.proofs.zeros_only.Lts as lts
 
 abbrev Inv-loop : tie.InvT-loop
 Inv-loop words all₀ i₀ all i = (i ≤ length words) × ((all && zeros (drop i words)) ≡ zeros words)

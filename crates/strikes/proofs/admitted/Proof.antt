@@ -2,10 +2,6 @@ use Rattle.strikes.proofs.Admitting.{first-three, whole-settings, no-re
 use borrow.Author.Needs.{needs}
 use Rattle.strikes.proofs.admitted.Statement.{statement}
 use Rattle.strikes.proofs.admitted.Tie as tie
-use Rattle.strikes.proofs.admitted.Reads as reads
-use Rattle.strikes.proofs.admitted.Lts as lts
-use Rattle.numbers.proofs.bounds.settings_of.Reads as settings-of-reads
-use Rattle.strikes.proofs.vetted.Reads as vetted-reads
 
 -- src/lib.rt:87:9
 vetted-requires : tie.Need-vetted-requires

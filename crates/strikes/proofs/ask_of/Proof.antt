@@ -1,9 +1,6 @@
 use borrow.Author.Needs.{needs}
 use Rattle.strikes.proofs.ask_of.Statement.{statement}
 use Rattle.strikes.proofs.ask_of.Tie as tie
-use Rattle.strikes.proofs.ask_of.Reads as reads
-use Rattle.strikes.proofs.ask_of.Lts as lts
-use Rattle.numbers.proofs.codes.deliverer_of.Reads as deliverer-of-reads
 
 -- src/lib.rt:54:9
 deliverer-of-requires : tie.Need-deliverer-of-requires

@@ -1,17 +1,11 @@
-use mathlib.Core.Path.{refl, sym, _∙_, ap}
+use mathlib.Core.Path.{refl}
 use Rattle.register.specs.Rules.{begin-says}
 use Rattle.model.specs.Register.{begin as begun}
 use Rattle.model.specs.Calls.{Begin, deed-fits, late-deed, done-on}
 use Rattle.strikes.proofs.OnRegister.{told-refused, enters, end-within, told-turned}
-use native.Mathlib.Omega.{arith}
 use borrow.Author.Needs.{needs}
 use Rattle.strikes.proofs.begin.Statement.{statement}
 use Rattle.strikes.proofs.begin.Tie as tie
-use Rattle.strikes.proofs.begin.Reads as reads
-use Rattle.strikes.proofs.begin.Lts as lts
-use Rattle.register.proofs.begin.Reads as begin-reads
-use Rattle.strikes.proofs.admitted.Reads as admitted-reads
-use Rattle.strikes.proofs.place_of.Reads as place-of-reads
 
 -- src/lib.rt:111:9
 admitted-requires : tie.Need-admitted-requires

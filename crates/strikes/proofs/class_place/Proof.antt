@@ -4,11 +4,6 @@ use Rattle.numbers.proofs.Placing.{needed-few}
 use Rattle.model.proofs.Bounds.{fit-shares}
 use Rattle.strikes.proofs.class_place.Statement.{statement}
 use Rattle.strikes.proofs.class_place.Tie as tie
-use Rattle.strikes.proofs.class_place.Reads as reads
-use Rattle.strikes.proofs.class_place.Lts as lts
-use Rattle.numbers.proofs.bounds.settings_of.Reads as settings-of-reads
-use Rattle.numbers.proofs.starts.class_start.Reads as class-start-reads
-use Rattle.numbers.proofs.starts.class_width.Reads as class-width-reads
 
 -- src/lib.rt:352:9
 settings-of-requires : tie.Need-settings-of-requires

@@ -5,15 +5,10 @@ use Rattle.model.specs.Book.{closed-book}
 use Rattle.model.specs.Calls.{Close, codes-fit, step}
 use Rattle.strikes.proofs.OnWhole.{book-refused, front-there, told-front}
 use Rattle.strikes.proofs.Admitting.{closes}
-use mathlib.Core.Path.{refl, sym, _∙_, ap, subst}
-use native.Mathlib.Omega.{arith}
+use mathlib.Core.Path.{refl}
 use borrow.Author.Needs.{needs}
 use Rattle.strikes.proofs.close.Statement.{statement}
 use Rattle.strikes.proofs.close.Tie as tie
-use Rattle.strikes.proofs.close.Reads as reads
-use Rattle.strikes.proofs.close.Lts as lts
-use Rattle.book.proofs.front.close.Reads as close-reads
-use Rattle.strikes.proofs.vetted.Reads as vetted-reads
 
 -- src/lib.rt:282:9
 vetted-requires : tie.Need-vetted-requires

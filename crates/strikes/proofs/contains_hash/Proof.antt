@@ -1,18 +1,11 @@
-use mathlib.Core.Path.{refl, sym, _∙_, ap}
+use mathlib.Core.Path.{refl, _∙_}
 use Rattle.model.specs.Register.{any-class, holds-any}
 use Rattle.model.specs.Generation.{as-read}
 use Rattle.model.specs.Calls.{ContainsHash, yes-no, deed-fits, late-deed, done-on}
 use Rattle.strikes.proofs.OnRegister.{read-refused, enters, words-there, end-within, told-read}
-use native.Mathlib.Omega.{arith}
 use borrow.Author.Needs.{needs}
 use Rattle.strikes.proofs.contains_hash.Statement.{statement}
 use Rattle.strikes.proofs.contains_hash.Tie as tie
-use Rattle.strikes.proofs.contains_hash.Reads as reads
-use Rattle.strikes.proofs.contains_hash.Lts as lts
-use Rattle.register.proofs.contains_hash.Reads as contains-hash-reads
-use Rattle.strikes.proofs.admitted.Reads as admitted-reads
-use Rattle.strikes.proofs.place_of.Reads as place-of-reads
-use Rattle.strikes.proofs.yes_or_no.Reads as yes-or-no-reads
 
 -- src/lib.rt:149:9
 admitted-requires : tie.Need-admitted-requires

@@ -1,16 +1,9 @@
 use Rattle.model.specs.Calls.{DumpTo, deed-fits}
 use Rattle.strikes.proofs.OnRegister.{enters, words-there, end-within}
 use Rattle.strikes.proofs.OnDump.{dump-refused-early, dump-refused-late, output-holds, dump-told}
-use native.Mathlib.Omega.{arith}
 use borrow.Author.Needs.{needs}
 use Rattle.strikes.proofs.dump.Statement.{statement}
 use Rattle.strikes.proofs.dump.Tie as tie
-use Rattle.strikes.proofs.dump.Reads as reads
-use Rattle.strikes.proofs.dump.Lts as lts
-use Rattle.dumping.proofs.dump.Reads as dump-reads
-use Rattle.strikes.proofs.admitted.Reads as admitted-reads
-use Rattle.strikes.proofs.dump_refused.Reads as dump-refused-reads
-use Rattle.strikes.proofs.place_of.Reads as place-of-reads
 
 -- src/lib.rt:436:9
 admitted-requires : tie.Need-admitted-requires

@@ -10,12 +10,6 @@ use Rattle.strikes.proofs.OnClass.{settings-there}
 use borrow.Author.Needs.{needs}
 use Rattle.strikes.proofs.expire.Statement.{statement}
 use Rattle.strikes.proofs.expire.Tie as tie
-use Rattle.strikes.proofs.expire.Reads as reads
-use Rattle.strikes.proofs.expire.Lts as lts
-use Rattle.expiring.proofs.expire.Reads as expire-reads
-use Rattle.numbers.proofs.bounds.settings_of.Reads as settings-of-reads
-use Rattle.numbers.proofs.starts.needed.Reads as needed-reads
-use Rattle.strikes.proofs.vetted.Reads as vetted-reads
 
 -- src/lib.rt:323:9
 vetted-requires : tie.Need-vetted-requires

@@ -1,15 +1,9 @@
-use mathlib.Core.Path.{refl, sym, _∙_, ap}
+use mathlib.Core.Path.{refl}
 use Rattle.model.specs.Calls.{Floor, floor-answer, deed-fits, late-deed, done-on}
-use Rattle.strikes.proofs.OnRegister.{read-refused, enters, words-there, end-within, told-read}
-use native.Mathlib.Omega.{arith}
+use Rattle.strikes.proofs.OnRegister.{read-refused, enters, end-within, told-read}
 use borrow.Author.Needs.{needs}
 use Rattle.strikes.proofs.floor.Statement.{statement}
 use Rattle.strikes.proofs.floor.Tie as tie
-use Rattle.strikes.proofs.floor.Reads as reads
-use Rattle.strikes.proofs.floor.Lts as lts
-use Rattle.register.proofs.floor.Reads as floor-reads
-use Rattle.strikes.proofs.admitted.Reads as admitted-reads
-use Rattle.strikes.proofs.place_of.Reads as place-of-reads
 
 -- src/lib.rt:163:9
 admitted-requires : tie.Need-admitted-requires

@@ -3,20 +3,10 @@ use Rattle.model.specs.Book.{entries-of}
 use Rattle.model.specs.Class.{class-of}
 use Rattle.model.specs.Calls.{HeldBy, codes-fit, step}
 use Rattle.strikes.proofs.Admitting.{holds}
-use mathlib.Core.Path.{refl, sym, _∙_, ap}
-use native.Mathlib.Omega.{arith}
-use Rattle.strikes.proofs.OnClass.{read-refused-book, settings-there, span-within, class-lies, totals-there, told-class}
+use Rattle.strikes.proofs.OnClass.{read-refused-book, settings-there, span-within, class-lies, told-class}
 use borrow.Author.Needs.{needs}
 use Rattle.strikes.proofs.held.Statement.{statement}
 use Rattle.strikes.proofs.held.Tie as tie
-use Rattle.strikes.proofs.held.Reads as reads
-use Rattle.strikes.proofs.held.Lts as lts
-use Rattle.book.proofs.held_by.Reads as held-by-reads
-use Rattle.numbers.proofs.codes.class_of.Reads as class-of-reads
-use Rattle.numbers.proofs.codes.deliverer_fits.Reads as deliverer-fits-reads
-use Rattle.numbers.proofs.codes.deliverer_of.Reads as deliverer-of-reads
-use Rattle.strikes.proofs.class_place.Reads as class-place-reads
-use Rattle.strikes.proofs.vetted.Reads as vetted-reads
 
 -- src/lib.rt:367:9
 deliverer-fits-requires : tie.Need-deliverer-fits-requires

@@ -1,4 +1,4 @@
-use mathlib.Core.Path.{refl, sym, _∙_, ap}
+use mathlib.Core.Path.{refl}
 use Rattle.register.specs.Rules.{asked-by, judged-register, judge-says}
 use Rattle.model.specs.declared.Answer.the-variants.{Said}
 use Rattle.model.specs.Calls.{Ticket, judged, deed-fits, late-deed, done-on, asked, after-judged}
@@ -7,13 +7,6 @@ use native.Mathlib.Omega.{arith}
 use borrow.Author.Needs.{needs}
 use Rattle.strikes.proofs.judge.Statement.{statement}
 use Rattle.strikes.proofs.judge.Tie as tie
-use Rattle.strikes.proofs.judge.Reads as reads
-use Rattle.strikes.proofs.judge.Lts as lts
-use Rattle.register.proofs.judge.Reads as judge-reads
-use Rattle.strikes.proofs.admitted.Reads as admitted-reads
-use Rattle.strikes.proofs.ask_of.Reads as ask-of-reads
-use Rattle.strikes.proofs.place_of.Reads as place-of-reads
-use Rattle.strikes.proofs.ticket_codes.Reads as ticket-codes-reads
 
 -- src/lib.rt:77:9
 ticket-codes-requires : tie.Need-ticket-codes-requires

@@ -1,19 +1,11 @@
-use mathlib.Core.Path.{refl, sym, _∙_, ap}
+use mathlib.Core.Path.{refl}
 use Rattle.register.specs.Rules.{asked-by, batch-register, batch-says}
 use Rattle.model.specs.declared.Answer.the-variants.{Said}
 use Rattle.model.specs.Calls.{Ticket, judged-batch, deed-fits, late-deed, done-on, asked, after-judged}
 use Rattle.strikes.proofs.OnRegister.{told-refused, enters, words-there, end-within, told-turned}
-use native.Mathlib.Omega.{arith}
 use borrow.Author.Needs.{needs}
 use Rattle.strikes.proofs.judge_batch.Statement.{statement}
 use Rattle.strikes.proofs.judge_batch.Tie as tie
-use Rattle.strikes.proofs.judge_batch.Reads as reads
-use Rattle.strikes.proofs.judge_batch.Lts as lts
-use Rattle.register.proofs.judge_batch.Reads as judge-batch-reads
-use Rattle.strikes.proofs.admitted.Reads as admitted-reads
-use Rattle.strikes.proofs.ask_of.Reads as ask-of-reads
-use Rattle.strikes.proofs.place_of.Reads as place-of-reads
-use Rattle.strikes.proofs.ticket_codes.Reads as ticket-codes-reads
 
 -- src/lib.rt:94:9
 ticket-codes-requires : tie.Need-ticket-codes-requires

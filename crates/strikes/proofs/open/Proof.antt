@@ -1,16 +1,7 @@
 use Rattle.strikes.proofs.Opening.{open-refused, opens-whole, open-asks, told-opened}
-use mathlib.Core.Path.{refl, sym, _∙_, ap}
-use native.Mathlib.Omega.{arith}
 use borrow.Author.Needs.{needs}
 use Rattle.strikes.proofs.open.Statement.{statement}
 use Rattle.strikes.proofs.open.Tie as tie
-use Rattle.strikes.proofs.open.Reads as reads
-use Rattle.strikes.proofs.open.Lts as lts
-use Rattle.numbers.proofs.bounds.limits_of.Reads as limits-of-reads
-use Rattle.numbers.proofs.bounds.settings_of.Reads as settings-of-reads
-use Rattle.numbers.proofs.starts.needed.Reads as needed-reads
-use Rattle.opening.proofs.open.Reads as open-reads
-use Rattle.strikes.proofs.opening_refused.Reads as opening-refused-reads
 
 -- src/lib.rt:336:9
 opening-refused-requires : tie.Need-opening-refused-requires

@@ -2,17 +2,10 @@ use mathlib.Core.Bool.{_&&_}
 use Rattle.strikes.proofs.Opening.{opens-unfit, opens-unlisted, opens-short, opens-all}
 use Rattle.vet.proofs.Entering.{words-fit}
 use borrow.Author.Tests.{not-true, not-false}
-use mathlib.Core.Path.{refl, sym, _∙_, ap}
+use mathlib.Core.Path.{sym, _∙_}
 use borrow.Author.Needs.{needs}
 use Rattle.strikes.proofs.opening_refused.Statement.{statement}
 use Rattle.strikes.proofs.opening_refused.Tie as tie
-use Rattle.strikes.proofs.opening_refused.Reads as reads
-use Rattle.strikes.proofs.opening_refused.Lts as lts
-use Rattle.numbers.proofs.bounds.settings_of.Reads as settings-of-reads
-use Rattle.vet.proofs.limits_fit.Reads as limits-fit-reads
-use Rattle.vet.proofs.settings_fit.Reads as settings-fit-reads
-use Rattle.vet.proofs.starts_fit.Reads as starts-fit-reads
-use Rattle.vet.proofs.too_short.Reads as too-short-reads
 
 -- src/lib.rt:317:9
 settings-fit-requires : tie.Need-settings-fit-requires

@@ -1,16 +1,9 @@
-use mathlib.Core.Path.{refl, sym, _∙_, ap}
+use mathlib.Core.Path.{refl, _∙_}
 use Rattle.model.specs.Calls.{Pending, yes-no, deed-fits, late-deed, done-on}
-use Rattle.strikes.proofs.OnRegister.{read-refused, enters, words-there, end-within, told-read}
-use native.Mathlib.Omega.{arith}
+use Rattle.strikes.proofs.OnRegister.{read-refused, enters, end-within, told-read}
 use borrow.Author.Needs.{needs}
 use Rattle.strikes.proofs.pending.Statement.{statement}
 use Rattle.strikes.proofs.pending.Tie as tie
-use Rattle.strikes.proofs.pending.Reads as reads
-use Rattle.strikes.proofs.pending.Lts as lts
-use Rattle.register.proofs.is_pending.Reads as is-pending-reads
-use Rattle.strikes.proofs.admitted.Reads as admitted-reads
-use Rattle.strikes.proofs.place_of.Reads as place-of-reads
-use Rattle.strikes.proofs.yes_or_no.Reads as yes-or-no-reads
 
 -- src/lib.rt:177:9
 admitted-requires : tie.Need-admitted-requires

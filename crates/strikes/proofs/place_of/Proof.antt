@@ -1,10 +1,6 @@
 use Rattle.vet.proofs.Entering.{words-fit}
 use Rattle.strikes.proofs.place_of.Statement.{statement}
 use Rattle.strikes.proofs.place_of.Tie as tie
-use Rattle.strikes.proofs.place_of.Reads as reads
-use Rattle.strikes.proofs.place_of.Lts as lts
-use Rattle.numbers.proofs.bounds.settings_of.Reads as settings-of-reads
-use Rattle.numbers.proofs.starts.place_of.Reads as place-of-reads
 
 settings-of-requires : tie.Need-settings-of-requires
 settings-of-requires c κs = words-fit (c .before .args .settings .now) (c .before .pre .0) .0

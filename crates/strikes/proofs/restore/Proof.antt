@@ -1,6 +1,5 @@
-use mathlib.Core.Path.{refl, sym, _∙_, ap, subst}
+use mathlib.Core.Path.{refl, sym, _∙_}
 use mathlib.Core.Option.{some}
-use native.Mathlib.Omega.{arith}
 use Rattle.model.specs.Settings.{settings-of}
 use Rattle.model.specs.Dump.{words-of}
 use Rattle.model.specs.Calls.{Restore, deed-fits, late-deed, restored}
@@ -14,14 +13,6 @@ use Rattle.strikes.proofs.OnRestore.{whole-dump, within-bytes, not-cut,
 use borrow.Author.Needs.{needs}
 use Rattle.strikes.proofs.restore.Statement.{statement}
 use Rattle.strikes.proofs.restore.Tie as tie
-use Rattle.strikes.proofs.restore.Reads as reads
-use Rattle.strikes.proofs.restore.Lts as lts
-use Rattle.dump.proofs.read_lengths.Reads as read-lengths-reads
-use Rattle.numbers.proofs.bounds.settings_of.Reads as settings-of-reads
-use Rattle.numbers.proofs.starts.needed.Reads as needed-reads
-use Rattle.restoring.proofs.restore.Reads as restore-reads
-use Rattle.strikes.proofs.admitted.Reads as admitted-reads
-use Rattle.strikes.proofs.told_restored.Reads as told-restored-reads
 
 -- src/lib.rt:465:9
 admitted-requires : tie.Need-admitted-requires

@@ -5,17 +5,10 @@ use Rattle.model.specs.Book.{with-limits}
 use Rattle.model.specs.Calls.{SetLimits, codes-fit, step}
 use Rattle.strikes.proofs.OnWhole.{book-refused, front-there, codes-there, limits-long, told-front}
 use Rattle.strikes.proofs.Admitting.{limits}
-use mathlib.Core.Path.{refl, sym, _∙_, ap, subst}
-use native.Mathlib.Omega.{arith}
+use mathlib.Core.Path.{refl}
 use borrow.Author.Needs.{needs}
 use Rattle.strikes.proofs.set_limits.Statement.{statement}
 use Rattle.strikes.proofs.set_limits.Tie as tie
-use Rattle.strikes.proofs.set_limits.Reads as reads
-use Rattle.strikes.proofs.set_limits.Lts as lts
-use Rattle.book.proofs.front.set_limits.Reads as set-limits-reads
-use Rattle.numbers.proofs.bounds.limits_of.Reads as limits-of-reads
-use Rattle.strikes.proofs.vetted.Reads as vetted-reads
-use Rattle.vet.proofs.limits_fit.Reads as limits-fit-reads
 
 -- src/lib.rt:294:9
 limits-fit-requires : tie.Need-limits-fit-requires

@@ -1,18 +1,12 @@
-use mathlib.Core.Path.{refl, sym, _∙_, ap}
+use mathlib.Core.Path.{refl}
 use Rattle.register.specs.Rules.{silent}
 use Rattle.model.specs.Register.{sweep as swept-by}
 use Rattle.model.specs.declared.Answer.the-variants.{Done}
 use Rattle.model.specs.Calls.{Sweep, deed-fits, late-deed, done-on}
 use Rattle.strikes.proofs.OnRegister.{told-refused, enters, words-there, end-within, told-turned}
-use native.Mathlib.Omega.{arith}
 use borrow.Author.Needs.{needs}
 use Rattle.strikes.proofs.sweep.Statement.{statement}
 use Rattle.strikes.proofs.sweep.Tie as tie
-use Rattle.strikes.proofs.sweep.Reads as reads
-use Rattle.strikes.proofs.sweep.Lts as lts
-use Rattle.register.proofs.sweep.Reads as sweep-reads
-use Rattle.strikes.proofs.admitted.Reads as admitted-reads
-use Rattle.strikes.proofs.place_of.Reads as place-of-reads
 
 -- src/lib.rt:125:9
 admitted-requires : tie.Need-admitted-requires

@@ -1,16 +1,10 @@
-use mathlib.Core.Path.{refl, sym, _∙_, ap}
+use mathlib.Core.Path.{refl}
 use Rattle.register.specs.Rules.{swept-answer}
 use Rattle.model.specs.Calls.{SweptBucket, deed-fits, late-deed, done-on}
-use Rattle.strikes.proofs.OnRegister.{read-refused, enters, words-there, end-within, told-read}
-use native.Mathlib.Omega.{arith}
+use Rattle.strikes.proofs.OnRegister.{read-refused, enters, end-within, told-read}
 use borrow.Author.Needs.{needs}
 use Rattle.strikes.proofs.swept.Statement.{statement}
 use Rattle.strikes.proofs.swept.Tie as tie
-use Rattle.strikes.proofs.swept.Reads as reads
-use Rattle.strikes.proofs.swept.Lts as lts
-use Rattle.register.proofs.swept.Reads as swept-reads
-use Rattle.strikes.proofs.admitted.Reads as admitted-reads
-use Rattle.strikes.proofs.place_of.Reads as place-of-reads
 
 -- src/lib.rt:191:9
 admitted-requires : tie.Need-admitted-requires

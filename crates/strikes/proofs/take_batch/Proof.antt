@@ -6,19 +6,10 @@ use Rattle.model.specs.Calls.{Ticket, taken-batch, deed-fits, late-deed, done-o
 use Rattle.strikes.proofs.OnWhole.{whole-within, whole-lies, told-whole}
 use Rattle.vet.proofs.Entering.{words-fit}
 use Rattle.strikes.proofs.OnRegister.{told-refused, enters}
-use mathlib.Core.Path.{refl, sym, _∙_, ap, subst}
-use native.Mathlib.Omega.{arith}
+use mathlib.Core.Path.{refl}
 use borrow.Author.Needs.{needs}
 use Rattle.strikes.proofs.take_batch.Statement.{statement}
 use Rattle.strikes.proofs.take_batch.Tie as tie
-use Rattle.strikes.proofs.take_batch.Reads as reads
-use Rattle.strikes.proofs.take_batch.Lts as lts
-use Rattle.numbers.proofs.bounds.settings_of.Reads as settings-of-reads
-use Rattle.numbers.proofs.starts.needed.Reads as needed-reads
-use Rattle.strikes.proofs.admitted.Reads as admitted-reads
-use Rattle.strikes.proofs.ask_of.Reads as ask-of-reads
-use Rattle.strikes.proofs.ticket_codes.Reads as ticket-codes-reads
-use Rattle.taking.proofs.take_batch.Reads as take-batch-reads
 
 -- src/lib.rt:265:9
 ticket-codes-requires : tie.Need-ticket-codes-requires

@@ -1,10 +1,6 @@
 use borrow.Author.Needs.{needs}
 use Rattle.strikes.proofs.ticket_codes.Statement.{statement}
 use Rattle.strikes.proofs.ticket_codes.Tie as tie
-use Rattle.strikes.proofs.ticket_codes.Reads as reads
-use Rattle.strikes.proofs.ticket_codes.Lts as lts
-use Rattle.numbers.proofs.codes.deliverer_fits.Reads as deliverer-fits-reads
-use Rattle.numbers.proofs.codes.flag_fits.Reads as flag-fits-reads
 
 -- src/lib.rt:45:9
 flag-fits-requires : tie.Need-flag-fits-requires

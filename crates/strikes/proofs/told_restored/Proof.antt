@@ -1,7 +1,5 @@
 use Rattle.strikes.proofs.told_restored.Statement.{statement}
 use Rattle.strikes.proofs.told_restored.Tie as tie
-use Rattle.strikes.proofs.told_restored.Reads as reads
-use Rattle.strikes.proofs.told_restored.Lts as lts
 
 -- src/lib.rt:456:9
 returns : tie.Need-returns

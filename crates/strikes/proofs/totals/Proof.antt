@@ -3,19 +3,11 @@ use Rattle.model.specs.declared.Answer.the-variants.{Totals as Answered}
 use Rattle.book.specs.Sums.{totals-of}
 use Rattle.model.specs.Calls.{ClassTotals, codes-fit, class-totals, step}
 use Rattle.strikes.proofs.Admitting.{totals}
-use mathlib.Core.Path.{refl, sym, _∙_, ap}
-use native.Mathlib.Omega.{arith}
-use Rattle.strikes.proofs.OnClass.{read-refused-book, settings-there, span-within, class-lies, totals-there, told-class}
+use mathlib.Core.Path.{refl}
+use Rattle.strikes.proofs.OnClass.{read-refused-book, settings-there, span-within, totals-there, told-class}
 use borrow.Author.Needs.{needs}
 use Rattle.strikes.proofs.totals.Statement.{statement}
 use Rattle.strikes.proofs.totals.Tie as tie
-use Rattle.strikes.proofs.totals.Reads as reads
-use Rattle.strikes.proofs.totals.Lts as lts
-use Rattle.book.proofs.held_of.Reads as held-of-reads
-use Rattle.numbers.proofs.codes.class_at.Reads as class-at-reads
-use Rattle.numbers.proofs.codes.class_fits.Reads as class-fits-reads
-use Rattle.strikes.proofs.class_place.Reads as class-place-reads
-use Rattle.strikes.proofs.vetted.Reads as vetted-reads
 
 -- src/lib.rt:383:9
 class-fits-requires : tie.Need-class-fits-requires

@@ -3,9 +3,6 @@ use Rattle.strikes.proofs.Admitting.{codes-unlisted, codes-listed}
 use borrow.Author.Needs.{needs}
 use Rattle.strikes.proofs.vetted.Statement.{statement}
 use Rattle.strikes.proofs.vetted.Tie as tie
-use Rattle.strikes.proofs.vetted.Reads as reads
-use Rattle.strikes.proofs.vetted.Lts as lts
-use Rattle.vet.proofs.vet.Reads as vet-reads
 
 -- src/lib.rt:78:9
 returns : tie.Need-returns

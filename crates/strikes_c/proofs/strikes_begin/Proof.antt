@@ -5,11 +5,6 @@ use Rattle.strikes_c.proofs.Sending.{told-out}
 use borrow.Author.Needs.{needs}
 use Rattle.strikes_c.proofs.strikes_begin.Statement.{statement}
 use Rattle.strikes_c.proofs.strikes_begin.Tie as tie
-use Rattle.strikes_c.proofs.strikes_begin.Reads as reads
-use Rattle.strikes_c.proofs.strikes_begin.Lts as lts
-use Rattle.strikes.proofs.begin.Reads as begin-reads
-use Rattle.strikes_c.proofs.sent.Sent.first_or.Reads as first-or-reads
-use Rattle.strikes_c.proofs.sent.send.Reads as send-reads
 
 -- src/lib.rt:136:21
 begin-requires : tie.Need-begin-requires

@@ -2,14 +2,6 @@ use Rattle.strikes_c.proofs.Sending.{read-out}
 use borrow.Author.Needs.{needs}
 use Rattle.strikes_c.proofs.strikes_class.Statement.{statement}
 use Rattle.strikes_c.proofs.strikes_class.Tie as tie
-use Rattle.strikes_c.proofs.strikes_class.Reads as reads
-use Rattle.strikes_c.proofs.strikes_class.Lts as lts
-use Rattle.strikes.proofs.totals.Reads as totals-reads
-use Rattle.strikes_c.proofs.sent.Sent.first_or.Reads as first-or-reads
-use Rattle.strikes_c.proofs.sent.Sent.fourth_or.Reads as fourth-or-reads
-use Rattle.strikes_c.proofs.sent.Sent.second_or.Reads as second-or-reads
-use Rattle.strikes_c.proofs.sent.Sent.third_or.Reads as third-or-reads
-use Rattle.strikes_c.proofs.sent.send.Reads as send-reads
 
 -- src/lib.rt:223:21
 totals-requires : tie.Need-totals-requires

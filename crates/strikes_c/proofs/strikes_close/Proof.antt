@@ -3,10 +3,6 @@ use Rattle.strikes_c.proofs.Sending.{told-out}
 use borrow.Author.Needs.{needs}
 use Rattle.strikes_c.proofs.strikes_close.Statement.{statement}
 use Rattle.strikes_c.proofs.strikes_close.Tie as tie
-use Rattle.strikes_c.proofs.strikes_close.Reads as reads
-use Rattle.strikes_c.proofs.strikes_close.Lts as lts
-use Rattle.strikes.proofs.close.Reads as close-reads
-use Rattle.strikes_c.proofs.sent.send.Reads as send-reads
 
 -- src/lib.rt:164:21
 close-requires : tie.Need-close-requires

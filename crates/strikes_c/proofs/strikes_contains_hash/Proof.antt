@@ -5,11 +5,6 @@ use Rattle.strikes_c.proofs.Sending.{read-out}
 use borrow.Author.Needs.{needs}
 use Rattle.strikes_c.proofs.strikes_contains_hash.Statement.{statement}
 use Rattle.strikes_c.proofs.strikes_contains_hash.Tie as tie
-use Rattle.strikes_c.proofs.strikes_contains_hash.Reads as reads
-use Rattle.strikes_c.proofs.strikes_contains_hash.Lts as lts
-use Rattle.strikes.proofs.contains_hash.Reads as contains-hash-reads
-use Rattle.strikes_c.proofs.sent.Sent.first_or.Reads as first-or-reads
-use Rattle.strikes_c.proofs.sent.send.Reads as send-reads
 
 -- src/lib.rt:126:21
 contains-hash-requires : tie.Need-contains-hash-requires

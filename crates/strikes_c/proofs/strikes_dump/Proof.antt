@@ -5,11 +5,6 @@ use Rattle.strikes_c.proofs.Sending.{written-out}
 use borrow.Author.Needs.{needs}
 use Rattle.strikes_c.proofs.strikes_dump.Statement.{statement}
 use Rattle.strikes_c.proofs.strikes_dump.Tie as tie
-use Rattle.strikes_c.proofs.strikes_dump.Reads as reads
-use Rattle.strikes_c.proofs.strikes_dump.Lts as lts
-use Rattle.strikes.proofs.dump.Reads as dump-reads
-use Rattle.strikes_c.proofs.sent.Sent.first_or.Reads as first-or-reads
-use Rattle.strikes_c.proofs.sent.send.Reads as send-reads
 
 -- src/lib.rt:244:21
 dump-requires : tie.Need-dump-requires

@@ -3,10 +3,6 @@ use Rattle.strikes_c.proofs.Sending.{told-out}
 use borrow.Author.Needs.{needs}
 use Rattle.strikes_c.proofs.strikes_expire.Statement.{statement}
 use Rattle.strikes_c.proofs.strikes_expire.Tie as tie
-use Rattle.strikes_c.proofs.strikes_expire.Reads as reads
-use Rattle.strikes_c.proofs.strikes_expire.Lts as lts
-use Rattle.strikes.proofs.expire.Reads as expire-reads
-use Rattle.strikes_c.proofs.sent.send.Reads as send-reads
 
 -- src/lib.rt:217:21
 expire-requires : tie.Need-expire-requires

@@ -2,12 +2,6 @@ use Rattle.strikes_c.proofs.Sending.{read-out}
 use borrow.Author.Needs.{needs}
 use Rattle.strikes_c.proofs.strikes_floor.Statement.{statement}
 use Rattle.strikes_c.proofs.strikes_floor.Tie as tie
-use Rattle.strikes_c.proofs.strikes_floor.Reads as reads
-use Rattle.strikes_c.proofs.strikes_floor.Lts as lts
-use Rattle.strikes.proofs.floor.Reads as floor-reads
-use Rattle.strikes_c.proofs.sent.Sent.first_or.Reads as first-or-reads
-use Rattle.strikes_c.proofs.sent.Sent.second_or.Reads as second-or-reads
-use Rattle.strikes_c.proofs.sent.send.Reads as send-reads
 
 -- src/lib.rt:173:21
 floor-requires : tie.Need-floor-requires

@@ -5,11 +5,6 @@ use Rattle.strikes_c.proofs.Sending.{read-out}
 use borrow.Author.Needs.{needs}
 use Rattle.strikes_c.proofs.strikes_held.Statement.{statement}
 use Rattle.strikes_c.proofs.strikes_held.Tie as tie
-use Rattle.strikes_c.proofs.strikes_held.Reads as reads
-use Rattle.strikes_c.proofs.strikes_held.Lts as lts
-use Rattle.strikes.proofs.held.Reads as held-reads
-use Rattle.strikes_c.proofs.sent.Sent.first_or.Reads as first-or-reads
-use Rattle.strikes_c.proofs.sent.send.Reads as send-reads
 
 -- src/lib.rt:205:21
 held-requires : tie.Need-held-requires

@@ -5,11 +5,6 @@ use Rattle.strikes_c.proofs.Sending.{told-out}
 use borrow.Author.Needs.{needs}
 use Rattle.strikes_c.proofs.strikes_judge.Statement.{statement}
 use Rattle.strikes_c.proofs.strikes_judge.Tie as tie
-use Rattle.strikes_c.proofs.strikes_judge.Reads as reads
-use Rattle.strikes_c.proofs.strikes_judge.Lts as lts
-use Rattle.strikes.proofs.judge.Reads as judge-reads
-use Rattle.strikes_c.proofs.sent.Sent.first_or.Reads as first-or-reads
-use Rattle.strikes_c.proofs.sent.send.Reads as send-reads
 
 -- src/lib.rt:53:21
 judge-requires : tie.Need-judge-requires

@@ -5,11 +5,6 @@ use Rattle.strikes_c.proofs.Sending.{told-out}
 use borrow.Author.Needs.{needs}
 use Rattle.strikes_c.proofs.strikes_judge_batch.Statement.{statement}
 use Rattle.strikes_c.proofs.strikes_judge_batch.Tie as tie
-use Rattle.strikes_c.proofs.strikes_judge_batch.Reads as reads
-use Rattle.strikes_c.proofs.strikes_judge_batch.Lts as lts
-use Rattle.strikes.proofs.judge_batch.Reads as judge-batch-reads
-use Rattle.strikes_c.proofs.sent.Sent.first_or.Reads as first-or-reads
-use Rattle.strikes_c.proofs.sent.send.Reads as send-reads
 
 -- src/lib.rt:74:21
 judge-batch-requires : tie.Need-judge-batch-requires

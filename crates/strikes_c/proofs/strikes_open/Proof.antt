@@ -3,10 +3,6 @@ use Rattle.strikes_c.proofs.Sending.{told-out}
 use borrow.Author.Needs.{needs}
 use Rattle.strikes_c.proofs.strikes_open.Statement.{statement}
 use Rattle.strikes_c.proofs.strikes_open.Tie as tie
-use Rattle.strikes_c.proofs.strikes_open.Reads as reads
-use Rattle.strikes_c.proofs.strikes_open.Lts as lts
-use Rattle.strikes.proofs.open.Reads as open-reads
-use Rattle.strikes_c.proofs.sent.send.Reads as send-reads
 
 -- src/lib.rt:33:21
 open-requires : tie.Need-open-requires

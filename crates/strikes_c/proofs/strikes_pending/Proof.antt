@@ -5,11 +5,6 @@ use Rattle.strikes_c.proofs.Sending.{read-out}
 use borrow.Author.Needs.{needs}
 use Rattle.strikes_c.proofs.strikes_pending.Statement.{statement}
 use Rattle.strikes_c.proofs.strikes_pending.Tie as tie
-use Rattle.strikes_c.proofs.strikes_pending.Reads as reads
-use Rattle.strikes_c.proofs.strikes_pending.Lts as lts
-use Rattle.strikes.proofs.pending.Reads as pending-reads
-use Rattle.strikes_c.proofs.sent.Sent.first_or.Reads as first-or-reads
-use Rattle.strikes_c.proofs.sent.send.Reads as send-reads
 
 -- src/lib.rt:184:21
 pending-requires : tie.Need-pending-requires

@@ -2,12 +2,6 @@ use Rattle.strikes_c.proofs.Sending.{told-out}
 use borrow.Author.Needs.{needs}
 use Rattle.strikes_c.proofs.strikes_restore.Statement.{statement}
 use Rattle.strikes_c.proofs.strikes_restore.Tie as tie
-use Rattle.strikes_c.proofs.strikes_restore.Reads as reads
-use Rattle.strikes_c.proofs.strikes_restore.Lts as lts
-use Rattle.strikes.proofs.restore.Reads as restore-reads
-use Rattle.strikes_c.proofs.sent.Sent.first_or.Reads as first-or-reads
-use Rattle.strikes_c.proofs.sent.Sent.second_or.Reads as second-or-reads
-use Rattle.strikes_c.proofs.sent.send.Reads as send-reads
 
 -- src/lib.rt:261:21
 restore-requires : tie.Need-restore-requires

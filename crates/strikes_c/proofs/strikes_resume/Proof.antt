@@ -2,12 +2,6 @@ use Rattle.strikes_c.proofs.Sending.{told-out}
 use borrow.Author.Needs.{needs}
 use Rattle.strikes_c.proofs.strikes_resume.Statement.{statement}
 use Rattle.strikes_c.proofs.strikes_resume.Tie as tie
-use Rattle.strikes_c.proofs.strikes_resume.Reads as reads
-use Rattle.strikes_c.proofs.strikes_resume.Lts as lts
-use Rattle.strikes.proofs.resume.Reads as resume-reads
-use Rattle.strikes_c.proofs.sent.Sent.first_or.Reads as first-or-reads
-use Rattle.strikes_c.proofs.sent.Sent.second_or.Reads as second-or-reads
-use Rattle.strikes_c.proofs.sent.send.Reads as send-reads
 
 -- src/lib.rt:281:21
 resume-requires : tie.Need-resume-requires

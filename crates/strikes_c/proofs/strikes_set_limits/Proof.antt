@@ -3,10 +3,6 @@ use Rattle.strikes_c.proofs.Sending.{told-out}
 use borrow.Author.Needs.{needs}
 use Rattle.strikes_c.proofs.strikes_set_limits.Statement.{statement}
 use Rattle.strikes_c.proofs.strikes_set_limits.Tie as tie
-use Rattle.strikes_c.proofs.strikes_set_limits.Reads as reads
-use Rattle.strikes_c.proofs.strikes_set_limits.Lts as lts
-use Rattle.strikes.proofs.set_limits.Reads as set-limits-reads
-use Rattle.strikes_c.proofs.sent.send.Reads as send-reads
 
 -- src/lib.rt:155:21
 set-limits-requires : tie.Need-set-limits-requires

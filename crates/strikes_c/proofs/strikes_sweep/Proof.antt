@@ -3,10 +3,6 @@ use Rattle.strikes_c.proofs.Sending.{told-out}
 use borrow.Author.Needs.{needs}
 use Rattle.strikes_c.proofs.strikes_sweep.Statement.{statement}
 use Rattle.strikes_c.proofs.strikes_sweep.Tie as tie
-use Rattle.strikes_c.proofs.strikes_sweep.Reads as reads
-use Rattle.strikes_c.proofs.strikes_sweep.Lts as lts
-use Rattle.strikes.proofs.sweep.Reads as sweep-reads
-use Rattle.strikes_c.proofs.sent.send.Reads as send-reads
 
 -- src/lib.rt:146:21
 sweep-requires : tie.Need-sweep-requires

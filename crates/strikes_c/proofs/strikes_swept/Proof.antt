@@ -2,12 +2,6 @@ use Rattle.strikes_c.proofs.Sending.{read-out}
 use borrow.Author.Needs.{needs}
 use Rattle.strikes_c.proofs.strikes_swept.Statement.{statement}
 use Rattle.strikes_c.proofs.strikes_swept.Tie as tie
-use Rattle.strikes_c.proofs.strikes_swept.Reads as reads
-use Rattle.strikes_c.proofs.strikes_swept.Lts as lts
-use Rattle.strikes.proofs.swept.Reads as swept-reads
-use Rattle.strikes_c.proofs.sent.Sent.first_or.Reads as first-or-reads
-use Rattle.strikes_c.proofs.sent.Sent.second_or.Reads as second-or-reads
-use Rattle.strikes_c.proofs.sent.send.Reads as send-reads
 
 -- src/lib.rt:194:21
 swept-requires : tie.Need-swept-requires

@@ -5,11 +5,6 @@ use Rattle.strikes_c.proofs.Sending.{told-out}
 use borrow.Author.Needs.{needs}
 use Rattle.strikes_c.proofs.strikes_take.Statement.{statement}
 use Rattle.strikes_c.proofs.strikes_take.Tie as tie
-use Rattle.strikes_c.proofs.strikes_take.Reads as reads
-use Rattle.strikes_c.proofs.strikes_take.Lts as lts
-use Rattle.strikes.proofs.take.Reads as take-reads
-use Rattle.strikes_c.proofs.sent.Sent.first_or.Reads as first-or-reads
-use Rattle.strikes_c.proofs.sent.send.Reads as send-reads
 
 -- src/lib.rt:95:21
 take-requires : tie.Need-take-requires

@@ -5,11 +5,6 @@ use Rattle.strikes_c.proofs.Sending.{told-out}
 use borrow.Author.Needs.{needs}
 use Rattle.strikes_c.proofs.strikes_take_batch.Statement.{statement}
 use Rattle.strikes_c.proofs.strikes_take_batch.Tie as tie
-use Rattle.strikes_c.proofs.strikes_take_batch.Reads as reads
-use Rattle.strikes_c.proofs.strikes_take_batch.Lts as lts
-use Rattle.strikes.proofs.take_batch.Reads as take-batch-reads
-use Rattle.strikes_c.proofs.sent.Sent.first_or.Reads as first-or-reads
-use Rattle.strikes_c.proofs.sent.send.Reads as send-reads
 
 -- src/lib.rt:116:21
 take-batch-requires : tie.Need-take-batch-requires

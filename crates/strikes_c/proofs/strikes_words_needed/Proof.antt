@@ -3,11 +3,6 @@ use Rattle.vet.proofs.Entering.{words-fit}
 use borrow.Author.Needs.{needs}
 use Rattle.strikes_c.proofs.strikes_words_needed.Statement.{statement}
 use Rattle.strikes_c.proofs.strikes_words_needed.Tie as tie
-use Rattle.strikes_c.proofs.strikes_words_needed.Reads as reads
-use Rattle.strikes_c.proofs.strikes_words_needed.Lts as lts
-use Rattle.numbers.proofs.bounds.settings_of.Reads as settings-of-reads
-use Rattle.numbers.proofs.starts.needed.Reads as needed-reads
-use Rattle.vet.proofs.settings_fit.Reads as settings-fit-reads
 
 -- src/lib.rt:20:9
 settings-fit-requires : tie.Need-settings-fit-requires

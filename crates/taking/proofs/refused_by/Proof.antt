@@ -1,8 +1,6 @@
 use borrow.Author.Needs.{needs}
 use Rattle.taking.proofs.refused_by.Statement.{statement}
 use Rattle.taking.proofs.refused_by.Tie as tie
-use Rattle.taking.proofs.refused_by.Reads as reads
-use Rattle.taking.proofs.refused_by.Lts as lts
 
 enum-told : tie.Need-enum-told
 enum-told c = search needs

@@ -3,8 +3,6 @@ use Rattle.taking.proofs.Taking.{take-turns}
 use borrow.Author.Needs.{needs}
 use Rattle.taking.proofs.take.Statement.{statement}
 use Rattle.taking.proofs.take.Tie as tie
-use Rattle.taking.proofs.take.Reads as reads
-use Rattle.taking.proofs.take.Lts as lts
 
 place-of-requires : tie.Need-place-of-requires
 place-of-requires c κs = search needs

@@ -3,8 +3,6 @@ use Rattle.taking.proofs.Taking.{take-batch-turns}
 use borrow.Author.Needs.{needs}
 use Rattle.taking.proofs.take_batch.Statement.{statement}
 use Rattle.taking.proofs.take_batch.Tie as tie
-use Rattle.taking.proofs.take_batch.Reads as reads
-use Rattle.taking.proofs.take_batch.Lts as lts
 
 place-of-requires : tie.Need-place-of-requires
 place-of-requires c κs = search needs

@@ -4,8 +4,6 @@ use Rattle.runs.proofs.Cases.{no}
 use borrow.Author.Needs.{needs}
 use Rattle.taking.proofs.take_judged.Statement.{statement}
 use Rattle.taking.proofs.take_judged.Tie as tie
-use Rattle.taking.proofs.take_judged.Reads as reads
-use Rattle.taking.proofs.take_judged.Lts as lts
 
 enum-told : tie.Need-enum-told
 enum-told c = search needs

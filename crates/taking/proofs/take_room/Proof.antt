@@ -3,8 +3,6 @@ use Rattle.taking.proofs.Taking.{no-room-turns, room-after, room-turns}
 use borrow.Author.Needs.{needs}
 use Rattle.taking.proofs.take_room.Statement.{statement}
 use Rattle.taking.proofs.take_room.Tie as tie
-use Rattle.taking.proofs.take_room.Reads as reads
-use Rattle.taking.proofs.take_room.Lts as lts
 
 room-requires : tie.Need-room-requires
 room-requires c κs = search needs

@@ -3,8 +3,6 @@ use Rattle.taking.proofs.Taking.{granted-spot, no-share-turns, share-tu
 use borrow.Author.Needs.{needs}
 use Rattle.taking.proofs.take_share.Statement.{statement}
 use Rattle.taking.proofs.take_share.Tie as tie
-use Rattle.taking.proofs.take_share.Reads as reads
-use Rattle.taking.proofs.take_share.Lts as lts
 
 look-up-requires : tie.Need-look-up-requires
 look-up-requires c κs = c .before .before .pre .0 .0

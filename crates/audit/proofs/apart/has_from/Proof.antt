@@ -2,7 +2,6 @@
 use mathlib.Core.Path.{refl}
 use Rattle.model.specs.BookWords.{read-who}
 use Prim.Native.Nat.{_-_}
-use native.Mathlib.Omega.{arith}
 use borrow.Author.Needs.{needs}
 use borrow.Author.Tests.{not-true, not-false}
 use Rattle.numbers.proofs.Placing.{ends-at}

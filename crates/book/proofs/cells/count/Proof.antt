@@ -2,16 +2,12 @@ use Rattle.book.proofs.PairWords.{count-word, count-is}
 use Rattle.book.specs.Pairs.{before}
 use Rattle.model.proofs.BookWords.{length-read}
 use Rattle.model.specs.BookWords.{read-pairs}
-use Rattle.model.specs.Generation.{count}
-use Rattle.runs.specs.Turns.{Reads}
 use borrow.Author.Needs.{needs}
 use mathlib.Core.Path.{_∙_}
 use native.Mathlib.Omega.{arith}
 use borrow.Author.Needs.{needs}
 use Rattle.book.proofs.cells.count.Statement.{statement}
 use Rattle.book.proofs.cells.count.Tie as tie
-use Rattle.book.proofs.cells.count.Reads as reads
-use Rattle.book.proofs.cells.count.Lts as lts
 
 -- src/cells.rt:59:13
 mul-a : tie.Need-mul-a

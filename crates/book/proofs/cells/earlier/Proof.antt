@@ -3,13 +3,10 @@ use Rattle.book.proofs.PairWords.{Walked, walked-none, walked-all, walk
 use Rattle.book.specs.Pairs.{before}
 use Rattle.model.specs.Book.{entries}
 use Rattle.model.specs.BookWords.{most-entries}
-use Rattle.runs.specs.Turns.{Reads}
 use borrow.Author.Needs.{needs}
 use native.Mathlib.Omega.{arith}
 use Rattle.book.proofs.cells.earlier.Statement.{statement}
 use Rattle.book.proofs.cells.earlier.Tie as tie
-use Rattle.book.proofs.cells.earlier.Reads as reads
-use Rattle.book.proofs.cells.earlier.Lts as lts
 
 abbrev Inv-loop : tie.InvT-loop
 Inv-loop cells n second i₀ entries₀ i entries = Walked n second cells i entries

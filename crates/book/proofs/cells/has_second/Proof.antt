@@ -2,14 +2,11 @@ use Rattle.book.proofs.PairWords.{second-word, second-none, second-is}
 use Rattle.book.specs.Pairs.{before}
 use Rattle.model.proofs.BookWords.{length-read}
 use Rattle.model.specs.BookWords.{read-pairs}
-use Rattle.runs.specs.Turns.{Reads}
 use borrow.Author.Needs.{needs}
 use native.Mathlib.Omega.{arith}
 use borrow.Author.Needs.{needs}
 use Rattle.book.proofs.cells.has_second.Statement.{statement}
 use Rattle.book.proofs.cells.has_second.Tie as tie
-use Rattle.book.proofs.cells.has_second.Reads as reads
-use Rattle.book.proofs.cells.has_second.Lts as lts
 
 -- src/cells.rt:48:9
 returns : tie.Need-returns

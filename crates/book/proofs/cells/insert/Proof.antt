@@ -1,7 +1,5 @@
 use Rattle.book.proofs.PairWords.{inserts}
 use Rattle.book.specs.Pairs.{before}
-use Rattle.model.specs.Generation.{insert}
-use Rattle.runs.specs.Turns.{Reads}
 use borrow.Author.Needs.{needs}
 use lib.ListN.{length-set}
 use mathlib.Core.Path.{refl}
@@ -9,9 +7,6 @@ use native.Mathlib.Omega.{arith}
 use borrow.Author.Needs.{needs}
 use Rattle.book.proofs.cells.insert.Statement.{statement}
 use Rattle.book.proofs.cells.insert.Tie as tie
-use Rattle.book.proofs.cells.insert.Reads as reads
-use Rattle.book.proofs.cells.insert.Lts as lts
-use Rattle.book.proofs.moves.move_up.Reads as move-up-reads
 
 -- src/cells.rt:86:13
 mul-a : tie.Need-mul-a

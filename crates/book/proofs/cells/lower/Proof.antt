@@ -1,11 +1,8 @@
 use Rattle.book.proofs.PairWords.{lowers}
-use Rattle.runs.specs.Turns.{Reads}
 use borrow.Author.Needs.{needs}
 use borrow.Author.Needs.{needs}
 use Rattle.book.proofs.cells.lower.Statement.{statement}
 use Rattle.book.proofs.cells.lower.Tie as tie
-use Rattle.book.proofs.cells.lower.Reads as reads
-use Rattle.book.proofs.cells.lower.Lts as lts
 
 -- src/cells.rt:77:13
 mul-a : tie.Need-mul-a

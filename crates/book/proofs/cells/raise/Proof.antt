@@ -1,12 +1,8 @@
 use Rattle.book.proofs.PairWords.{raises}
-use Rattle.model.specs.Numbers.{raise}
-use Rattle.runs.specs.Turns.{Reads}
 use borrow.Author.Needs.{needs}
 use borrow.Author.Needs.{needs}
 use Rattle.book.proofs.cells.raise.Statement.{statement}
 use Rattle.book.proofs.cells.raise.Tie as tie
-use Rattle.book.proofs.cells.raise.Reads as reads
-use Rattle.book.proofs.cells.raise.Lts as lts
 
 -- src/cells.rt:68:13
 mul-a : tie.Need-mul-a

@@ -1,14 +1,10 @@
 use Rattle.book.proofs.PairWords.{removes}
 use Rattle.book.specs.Pairs.{before}
-use Rattle.runs.specs.Turns.{Reads}
 use borrow.Author.Needs.{needs}
 use mathlib.Core.Path.{refl}
 use borrow.Author.Needs.{needs}
 use Rattle.book.proofs.cells.remove.Statement.{statement}
 use Rattle.book.proofs.cells.remove.Tie as tie
-use Rattle.book.proofs.cells.remove.Reads as reads
-use Rattle.book.proofs.cells.remove.Lts as lts
-use Rattle.book.proofs.moves.close_up.Reads as close-up-reads
 
 -- src/cells.rt:99:13
 mul-a : tie.Need-mul-a

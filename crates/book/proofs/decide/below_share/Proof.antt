@@ -1,11 +1,8 @@
 use Rattle.book.specs.Pairs.{before}
 use Rattle.model.specs.Book.{below-share}
-use Rattle.runs.specs.Turns.{Reads}
 use borrow.Author.Needs.{needs}
 use Rattle.book.proofs.decide.below_share.Statement.{statement}
 use Rattle.book.proofs.decide.below_share.Tie as tie
-use Rattle.book.proofs.decide.below_share.Reads as reads
-use Rattle.book.proofs.decide.below_share.Lts as lts
 
 -- src/decide.rt:78:33
 enum-told : tie.Need-enum-told

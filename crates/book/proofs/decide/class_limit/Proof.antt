@@ -1,11 +1,8 @@
 use Rattle.model.specs.Book.{together}
-use Rattle.runs.specs.Turns.{Reads}
 use borrow.Author.Needs.{needs}
 use borrow.Author.Needs.{needs}
 use Rattle.book.proofs.decide.class_limit.Statement.{statement}
 use Rattle.book.proofs.decide.class_limit.Tie as tie
-use Rattle.book.proofs.decide.class_limit.Reads as reads
-use Rattle.book.proofs.decide.class_limit.Lts as lts
 
 -- src/decide.rt:67:27
 enum-told : tie.Need-enum-told

@@ -1,10 +1,7 @@
 use Rattle.book.specs.Sums.{taken}
-use Rattle.runs.specs.Turns.{Reads}
 use borrow.Author.Tests.{eq-eqb, ne-eqb}
 use Rattle.book.proofs.decide.if_none.Statement.{statement}
 use Rattle.book.proofs.decide.if_none.Tie as tie
-use Rattle.book.proofs.decide.if_none.Reads as reads
-use Rattle.book.proofs.decide.if_none.Lts as lts
 
 -- src/decide.rt:14:9
 returns : tie.Need-returns

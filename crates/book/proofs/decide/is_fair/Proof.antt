@@ -1,11 +1,8 @@
 use Rattle.model.specs.Book.{fair}
-use Rattle.runs.specs.Turns.{Reads}
 use borrow.Author.Needs.{needs}
 use borrow.Author.Needs.{needs}
 use Rattle.book.proofs.decide.is_fair.Statement.{statement}
 use Rattle.book.proofs.decide.is_fair.Tie as tie
-use Rattle.book.proofs.decide.is_fair.Reads as reads
-use Rattle.book.proofs.decide.is_fair.Lts as lts
 
 -- src/decide.rt:90:33
 enum-told : tie.Need-enum-told

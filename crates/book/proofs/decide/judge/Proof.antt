@@ -4,20 +4,12 @@ use Rattle.book.specs.Sums.{taken}
 use Rattle.model.specs.Book.{units, together, below-share}
 use Rattle.model.specs.Class.{class-of}
 use Rattle.model.specs.Generation.{held}
-use Rattle.model.specs.Judge.{judge}
-use Rattle.runs.specs.Turns.{Reads}
 use borrow.Author.Needs.{needs}
 use borrow.Author.Tests.{not-true, not-false}
 use mathlib.Core.Path.{_≡_, ap, sym, _∙_}
 use native.Mathlib.Omega.{arith}
 use Rattle.book.proofs.decide.judge.Statement.{statement}
 use Rattle.book.proofs.decide.judge.Tie as tie
-use Rattle.book.proofs.decide.judge.Reads as reads
-use Rattle.book.proofs.decide.judge.Lts as lts
-use Rattle.book.proofs.decide.below_share.Reads as below-share-reads
-use Rattle.book.proofs.decide.class_limit.Reads as class-limit-reads
-use Rattle.numbers.proofs.codes.class_of.Reads as class-of-reads
-use Rattle.book.proofs.decide.is_fair.Reads as is-fair-reads
 
 -- src/decide.rt:116:9
 returns : tie.Need-returns

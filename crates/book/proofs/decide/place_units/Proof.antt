@@ -1,11 +1,8 @@
 use Rattle.model.specs.Book.{place-units}
-use Rattle.runs.specs.Turns.{Reads}
 use borrow.Author.Needs.{needs}
 use borrow.Author.Needs.{needs}
 use Rattle.book.proofs.decide.place_units.Statement.{statement}
 use Rattle.book.proofs.decide.place_units.Tie as tie
-use Rattle.book.proofs.decide.place_units.Reads as reads
-use Rattle.book.proofs.decide.place_units.Lts as lts
 
 -- src/decide.rt:24:33
 enum-told : tie.Need-enum-told

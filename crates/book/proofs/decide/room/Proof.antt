@@ -1,11 +1,8 @@
 use Rattle.book.specs.Pairs.{before}
 use Rattle.book.specs.Rules.{room-by}
 use Rattle.book.specs.Sums.{taken}
-use Rattle.runs.specs.Turns.{Reads}
 use Rattle.book.proofs.decide.room.Statement.{statement}
 use Rattle.book.proofs.decide.room.Tie as tie
-use Rattle.book.proofs.decide.room.Reads as reads
-use Rattle.book.proofs.decide.room.Lts as lts
 
 -- src/decide.rt:102:9
 returns : tie.Need-returns

@@ -1,11 +1,8 @@
 use Rattle.book.proofs.Judging.{shuts}
-use Rattle.runs.specs.Turns.{Reads}
 use borrow.Author.Needs.{needs}
 use borrow.Author.Needs.{needs}
 use Rattle.book.proofs.front.close.Statement.{statement}
 use Rattle.book.proofs.front.close.Tie as tie
-use Rattle.book.proofs.front.close.Reads as reads
-use Rattle.book.proofs.front.close.Lts as lts
 
 -- src/front.rt:28:5
 slice-write-front : tie.Need-slice-write-front

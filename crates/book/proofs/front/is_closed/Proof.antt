@@ -1,11 +1,8 @@
 use Rattle.book.proofs.Judging.{reads-closed}
-use Rattle.runs.specs.Turns.{Reads}
 use borrow.Author.Needs.{needs}
 use borrow.Author.Needs.{needs}
 use Rattle.book.proofs.front.is_closed.Statement.{statement}
 use Rattle.book.proofs.front.is_closed.Tie as tie
-use Rattle.book.proofs.front.is_closed.Reads as reads
-use Rattle.book.proofs.front.is_closed.Lts as lts
 
 -- src/front.rt:50:5
 shared-slice-read-result : tie.Need-shared-slice-read-result

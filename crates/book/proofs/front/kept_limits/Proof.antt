@@ -1,11 +1,8 @@
 use Rattle.book.proofs.Judging.{reads-limits}
-use Rattle.runs.specs.Turns.{Reads}
 use borrow.Author.Needs.{needs}
 use borrow.Author.Needs.{needs}
 use Rattle.book.proofs.front.kept_limits.Statement.{statement}
 use Rattle.book.proofs.front.kept_limits.Tie as tie
-use Rattle.book.proofs.front.kept_limits.Reads as reads
-use Rattle.book.proofs.front.kept_limits.Lts as lts
 
 -- src/front.rt:37:17
 shared-slice-read-t3 : tie.Need-shared-slice-read-t3

@@ -1,13 +1,10 @@
 use Rattle.book.proofs.Judging.{sets-limits}
-use Rattle.runs.specs.Turns.{Reads}
 use borrow.Author.Needs.{needs}
 use lib.ListN.{length-set}
 use native.Mathlib.Omega.{arith}
 use borrow.Author.Needs.{needs}
 use Rattle.book.proofs.front.set_limits.Statement.{statement}
 use Rattle.book.proofs.front.set_limits.Tie as tie
-use Rattle.book.proofs.front.set_limits.Reads as reads
-use Rattle.book.proofs.front.set_limits.Lts as lts
 
 -- src/front.rt:16:5
 slice-write-front : tie.Need-slice-write-front

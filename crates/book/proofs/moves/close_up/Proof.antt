@@ -1,16 +1,11 @@
 use Rattle.book.proofs.PairWords.{close-end}
 use Rattle.book.specs.Pairs.{before}
 use Rattle.model.specs.Worked.{last}
-use Rattle.runs.specs.Turns.{Reads}
 use borrow.Author.Needs.{needs}
 use mathlib.Core.Path.{refl}
 use borrow.Author.Needs.{needs}
 use Rattle.book.proofs.moves.close_up.Statement.{statement}
 use Rattle.book.proofs.moves.close_up.Tie as tie
-use Rattle.book.proofs.moves.close_up.Reads as reads
-use Rattle.book.proofs.moves.close_up.Lts as lts
-use Rattle.book.proofs.moves.move_down.Reads as move-down-reads
-use Rattle.runs.proofs.clear_words.Reads as clear-words-reads
 
 -- src/moves.rt:26:5
 move-down-requires : tie.Need-move-down-requires

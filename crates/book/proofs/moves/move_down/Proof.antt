@@ -1,7 +1,6 @@
 use Prim.Native.Nat.{_-_, _≤_}
 use Rattle.book.proofs.Shifts.{down-on, down-end}
 use Rattle.book.specs.Pairs.{before}
-use Rattle.runs.specs.Turns.{Reads}
 use borrow.Author.Needs.{needs}
 use lib.ListN.{length, take, drop, length-set}
 use mathlib.Core.List.{_++_}
@@ -9,8 +8,6 @@ use mathlib.Core.Path.{_≡_, refl, _∙_}
 use native.Mathlib.Omega.{arith}
 use Rattle.book.proofs.moves.move_down.Statement.{statement}
 use Rattle.book.proofs.moves.move_down.Tie as tie
-use Rattle.book.proofs.moves.move_down.Reads as reads
-use Rattle.book.proofs.moves.move_down.Lts as lts
 
 abbrev Inv-loop : tie.InvT-loop
 Inv-loop words₀ d end i₀ words i = (length words ≡ length words₀) × (i ≤ length words₀ - d) × (words ≡ take i (drop d words₀) ++ drop i words₀)

@@ -1,7 +1,6 @@
 use Prim.Native.Nat.{_-_, _≤_}
 use Rattle.book.proofs.Shifts.{up-on, up-start, up-end}
 use Rattle.book.specs.Pairs.{before}
-use Rattle.runs.specs.Turns.{Reads}
 use borrow.Author.Needs.{needs}
 use lib.ListN.{length, take, drop, length-set}
 use mathlib.Core.List.{_++_}
@@ -9,8 +8,6 @@ use mathlib.Core.Path.{_≡_, refl, _∙_}
 use native.Mathlib.Omega.{arith}
 use Rattle.book.proofs.moves.move_up.Statement.{statement}
 use Rattle.book.proofs.moves.move_up.Tie as tie
-use Rattle.book.proofs.moves.move_up.Reads as reads
-use Rattle.book.proofs.moves.move_up.Lts as lts
 
 abbrev Inv-loop : tie.InvT-loop
 Inv-loop words₀ i₀ words i = (length words ≡ length words₀) × (2 ≤ i) × (i ≤ length words₀) × (words ≡ take i words₀ ++ drop (i - 2) (take (length words₀ - 2) words₀))

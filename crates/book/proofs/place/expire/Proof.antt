@@ -1,17 +1,12 @@
 use Rattle.book.proofs.PlaceTurns.{place-expires, tail-long, tail-sum, went}
 use Rattle.book.specs.Pairs.{before}
-use Rattle.model.specs.Book.{entries, expire}
-use Rattle.runs.specs.Turns.{Reads}
+use Rattle.model.specs.Book.{entries}
 use borrow.Author.Needs.{needs}
 use lib.ListN.{length-set}
 use native.Mathlib.Omega.{arith}
 use borrow.Author.Needs.{needs}
 use Rattle.book.proofs.place.expire.Statement.{statement}
 use Rattle.book.proofs.place.expire.Tie as tie
-use Rattle.book.proofs.place.expire.Reads as reads
-use Rattle.book.proofs.place.expire.Lts as lts
-use Rattle.book.proofs.cells.earlier.Reads as earlier-reads
-use Rattle.book.proofs.cells.remove.Reads as remove-reads
 
 -- src/place.rt:153:15
 slice-read-sum : tie.Need-slice-read-sum

@@ -1,16 +1,12 @@
 use Rattle.book.proofs.PlaceTurns.{place-inserts}
 use Rattle.book.specs.Pairs.{before}
 use Rattle.model.specs.Generation.{insert}
-use Rattle.runs.specs.Turns.{Reads}
 use borrow.Author.Needs.{needs}
 use lib.ListN.{length-set}
 use native.Mathlib.Omega.{arith}
 use borrow.Author.Needs.{needs}
 use Rattle.book.proofs.place.insert.Statement.{statement}
 use Rattle.book.proofs.place.insert.Tie as tie
-use Rattle.book.proofs.place.insert.Reads as reads
-use Rattle.book.proofs.place.insert.Lts as lts
-use Rattle.book.proofs.cells.insert.Reads as insert-reads
 
 -- src/place.rt:103:15
 slice-read-sum : tie.Need-slice-read-sum

@@ -1,11 +1,8 @@
 use Rattle.model.specs.Class.{kind-of}
-use Rattle.runs.specs.Turns.{Reads}
 use borrow.Author.Needs.{needs}
 use borrow.Author.Needs.{needs}
 use Rattle.book.proofs.place.kind_word.Statement.{statement}
 use Rattle.book.proofs.place.kind_word.Tie as tie
-use Rattle.book.proofs.place.kind_word.Reads as reads
-use Rattle.book.proofs.place.kind_word.Lts as lts
 
 -- src/place.rt:30:33
 enum-told : tie.Need-enum-told

@@ -1,14 +1,9 @@
 use Rattle.book.proofs.PlaceTurns.{tail-long, tail-sum, looked}
 use Rattle.book.specs.Pairs.{before}
-use Rattle.runs.specs.Turns.{Reads}
 use borrow.Author.Needs.{needs}
 use borrow.Author.Needs.{needs}
 use Rattle.book.proofs.place.look.Statement.{statement}
 use Rattle.book.proofs.place.look.Tie as tie
-use Rattle.book.proofs.place.look.Reads as reads
-use Rattle.book.proofs.place.look.Lts as lts
-use Rattle.book.proofs.cells.earlier.Reads as earlier-reads
-use Rattle.book.proofs.cells.has_second.Reads as has-second-reads
 
 -- src/place.rt:62:13
 shared-slice-read-n : tie.Need-shared-slice-read-n

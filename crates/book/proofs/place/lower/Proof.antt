@@ -1,13 +1,9 @@
 use Rattle.book.proofs.PlaceTurns.{place-lowers, tail-word, tail-long}
 use Rattle.book.specs.Pairs.{before}
-use Rattle.runs.specs.Turns.{Reads}
 use borrow.Author.Needs.{needs}
 use borrow.Author.Needs.{needs}
 use Rattle.book.proofs.place.lower.Statement.{statement}
 use Rattle.book.proofs.place.lower.Tie as tie
-use Rattle.book.proofs.place.lower.Reads as reads
-use Rattle.book.proofs.place.lower.Lts as lts
-use Rattle.book.proofs.cells.lower.Reads as lower-reads
 
 -- src/place.rt:124:15
 slice-read-sum : tie.Need-slice-read-sum

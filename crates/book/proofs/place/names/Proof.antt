@@ -1,11 +1,8 @@
 use Rattle.book.specs.Pairs.{before}
-use Rattle.runs.specs.Turns.{Reads}
 use borrow.Author.Needs.{needs}
 use borrow.Author.Needs.{needs}
 use Rattle.book.proofs.place.names.Statement.{statement}
 use Rattle.book.proofs.place.names.Tie as tie
-use Rattle.book.proofs.place.names.Reads as reads
-use Rattle.book.proofs.place.names.Lts as lts
 
 -- src/place.rt:18:27
 enum-known-who : tie.Need-enum-known-who

@@ -1,16 +1,11 @@
 use Rattle.book.proofs.PlaceTurns.{opens}
 use Rattle.book.specs.Pairs.{before}
-use Rattle.runs.specs.Turns.{Reads}
 use borrow.Author.Needs.{needs}
 use lib.ListN.{length-set}
 use native.Mathlib.Omega.{arith}
 use borrow.Author.Needs.{needs}
 use Rattle.book.proofs.place.open.Statement.{statement}
 use Rattle.book.proofs.place.open.Tie as tie
-use Rattle.book.proofs.place.open.Reads as reads
-use Rattle.book.proofs.place.open.Lts as lts
-use Rattle.book.proofs.place.id_word.Reads as id-word-reads
-use Rattle.book.proofs.place.kind_word.Reads as kind-word-reads
 
 -- src/place.rt:79:16
 kind-word-requires : tie.Need-kind-word-requires

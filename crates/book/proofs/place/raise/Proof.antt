@@ -1,14 +1,10 @@
 use Rattle.book.proofs.PlaceTurns.{place-raises, tail-word, tail-long}
 use Rattle.book.specs.Pairs.{before}
 use Rattle.model.specs.Numbers.{raise}
-use Rattle.runs.specs.Turns.{Reads}
 use borrow.Author.Needs.{needs}
 use borrow.Author.Needs.{needs}
 use Rattle.book.proofs.place.raise.Statement.{statement}
 use Rattle.book.proofs.place.raise.Tie as tie
-use Rattle.book.proofs.place.raise.Reads as reads
-use Rattle.book.proofs.place.raise.Lts as lts
-use Rattle.book.proofs.cells.raise.Reads as raise-reads
 
 -- src/place.rt:92:15
 slice-read-sum : tie.Need-slice-read-sum

@@ -1,15 +1,11 @@
 use Rattle.book.proofs.PlaceTurns.{place-removes}
 use Rattle.book.specs.Pairs.{before}
-use Rattle.runs.specs.Turns.{Reads}
 use borrow.Author.Needs.{needs}
 use lib.ListN.{length-set}
 use native.Mathlib.Omega.{arith}
 use borrow.Author.Needs.{needs}
 use Rattle.book.proofs.place.remove.Statement.{statement}
 use Rattle.book.proofs.place.remove.Tie as tie
-use Rattle.book.proofs.place.remove.Reads as reads
-use Rattle.book.proofs.place.remove.Lts as lts
-use Rattle.book.proofs.cells.remove.Reads as remove-reads
 
 -- src/place.rt:135:15
 slice-read-sum : tie.Need-slice-read-sum

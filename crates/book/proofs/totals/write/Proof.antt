@@ -4,8 +4,6 @@ use lib.ListN.{length-set}
 use native.Mathlib.Omega.{arith}
 use Rattle.book.proofs.totals.write.Statement.{statement}
 use Rattle.book.proofs.totals.write.Tie as tie
-use Rattle.book.proofs.totals.write.Reads as reads
-use Rattle.book.proofs.totals.write.Lts as lts
 
 -- src/totals.rt:33:5
 slice-write-part : tie.Need-slice-write-part

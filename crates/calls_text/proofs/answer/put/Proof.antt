@@ -1,15 +1,13 @@
 -- What is put so far stands behind what was there before.
 use Prim.Native.Nat.{_+_, _-_, _≤_}
 use native.Mathlib.Omega.{arith}
-use mathlib.Core.Path.{_≡_, refl, sym, _∙_}
-use mathlib.Core.List.{_++_, append-nil}
+use mathlib.Core.Path.{_≡_, refl, _∙_}
+use mathlib.Core.List.{_++_}
 use lib.ListN.{length, take, length-set}
 use Rattle.calls_text.proofs.Puts.{put-on, put-end, put-start}
 use borrow.Author.Needs.{needs}
 use Rattle.calls_text.proofs.answer.put.Statement.{statement}
 use Rattle.calls_text.proofs.answer.put.Tie as tie
-use Rattle.calls_text.proofs.answer.put.Reads as reads
-use Rattle.calls_text.proofs.answer.put.Lts as lts
 
 abbrev Inv-loop : tie.InvT-loop
 Inv-loop out₀ at text i₀ out i = (i ≤ length text) × (length out ≡ length out₀) × (take (at + i) out ≡ take at out₀ ++ take i text)

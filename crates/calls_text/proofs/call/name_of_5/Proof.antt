@@ -1,9 +1,6 @@
 use borrow.Author.Needs.{needs}
 use Rattle.calls_text.proofs.call.name_of_5.Statement.{statement}
 use Rattle.calls_text.proofs.call.name_of_5.Tie as tie
-use Rattle.calls_text.proofs.call.name_of_5.Reads as reads
-use Rattle.calls_text.proofs.call.name_of_5.Lts as lts
-use Rattle.check.proofs.same.Reads as same-reads
 
 slice-aggregate-same : tie.Need-slice-aggregate-same
 slice-aggregate-same c = search needs

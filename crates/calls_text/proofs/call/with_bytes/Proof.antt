@@ -2,9 +2,6 @@ use mathlib.Core.Path.{refl}
 use borrow.Author.Needs.{needs}
 use Rattle.calls_text.proofs.call.with_bytes.Statement.{statement}
 use Rattle.calls_text.proofs.call.with_bytes.Tie as tie
-use Rattle.calls_text.proofs.call.with_bytes.Reads as reads
-use Rattle.calls_text.proofs.call.with_bytes.Lts as lts
-use Rattle.calls_text.proofs.hex.read.Reads as read-reads
 
 read-requires : tie.Need-read-requires
 read-requires c κs = search needs

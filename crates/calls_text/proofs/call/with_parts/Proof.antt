@@ -5,9 +5,6 @@ use Rattle.calls_text.specs.Call.{Inside}
 use borrow.Author.Needs.{needs}
 use Rattle.calls_text.proofs.call.with_parts.Statement.{statement}
 use Rattle.calls_text.proofs.call.with_parts.Tie as tie
-use Rattle.calls_text.proofs.call.with_parts.Reads as reads
-use Rattle.calls_text.proofs.call.with_parts.Lts as lts
-use Rattle.calls_text.proofs.call.with_part.Reads as with-part-reads
 
 abbrev Inv-loop : tie.InvT-loop
 Inv-loop text shape words₀ out₀ r₀ left₀ words out r left = (length words ≡ length words₀) × (length out ≡ length out₀) × Inside text out r

@@ -5,10 +5,6 @@ use Rattle.calls_text.specs.Call.{Inside}
 use borrow.Author.Needs.{needs}
 use Rattle.calls_text.proofs.call.with_registers.Statement.{statement}
 use Rattle.calls_text.proofs.call.with_registers.Tie as tie
-use Rattle.calls_text.proofs.call.with_registers.Reads as reads
-use Rattle.calls_text.proofs.call.with_registers.Lts as lts
-use Rattle.calls_text.proofs.call.goes_on.Reads as goes-on-reads
-use Rattle.calls_text.proofs.call.with_parts.Reads as with-parts-reads
 
 abbrev Inv-loop : tie.InvT-loop
 Inv-loop text shape words₀ out₀ r₀ turns₀ words out r turns = (length words ≡ length words₀) × (length out ≡ length out₀) × Inside text out r

@@ -3,8 +3,6 @@ use lib.ListN.{List·getD-eq-default}
 use borrow.Author.Needs.{needs}
 use Rattle.calls_text.proofs.call.word_at.Statement.{statement}
 use Rattle.calls_text.proofs.call.word_at.Tie as tie
-use Rattle.calls_text.proofs.call.word_at.Reads as reads
-use Rattle.calls_text.proofs.call.word_at.Lts as lts
 
 mul-result : tie.Need-mul-result
 mul-result c = search needs

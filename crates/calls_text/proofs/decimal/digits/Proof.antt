@@ -9,9 +9,6 @@ use Rattle.calls_text.proofs.Decimals.{tens, tens-19, read-end, write-o
 use borrow.Author.Needs.{needs}
 use Rattle.calls_text.proofs.decimal.digits.Statement.{statement}
 use Rattle.calls_text.proofs.decimal.digits.Tie as tie
-use Rattle.calls_text.proofs.decimal.digits.Reads as reads
-use Rattle.calls_text.proofs.decimal.digits.Lts as lts
-use Rattle.calls_text.proofs.decimal.digit.Reads as digit-reads
 
 abbrev Inv-loop : tie.InvT-loop
 Inv-loop n out₀ i₀ rest₀ out i rest = (i < 20) × (length out ≡ 20) × (rest < tens i) × (rest ≤ 18446744073709551615) × (withDigits (Is rest) (drop i out) ≡ Is n)

@@ -1,12 +1,9 @@
 use native.Mathlib.Omega.{arith}
-use mathlib.Core.Path.{refl}
 use Prim.Native.Nat.{_+_, _*_, _-_, _<_, _≤_}
 use borrow.Author.Tests.{le-leb, lt-leb}
 use borrow.Author.Needs.{needs}
 use Rattle.calls_text.proofs.decimal.joined.Statement.{statement}
 use Rattle.calls_text.proofs.decimal.joined.Tie as tie
-use Rattle.calls_text.proofs.decimal.joined.Reads as reads
-use Rattle.calls_text.proofs.decimal.joined.Lts as lts
 
 returns : tie.Need-returns
 returns c = simp (lt-leb _ _ (c .if1 .taken))

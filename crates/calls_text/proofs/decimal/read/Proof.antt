@@ -1,5 +1,5 @@
 -- The number read so far, with the digits that are left behind it, is the number of the whole text.
-use Prim.Native.Nat.{_+_, _-_, _≤_}
+use Prim.Native.Nat.{_-_, _≤_}
 use native.Mathlib.Omega.{arith}
 use mathlib.Core.Path.{_≡_, sym, _∙_}
 use lib.ListN.{length, drop}
@@ -8,9 +8,6 @@ use Rattle.calls_text.proofs.Decimals.{number-none, number-some, read-o
 use borrow.Author.Needs.{needs}
 use Rattle.calls_text.proofs.decimal.read.Statement.{statement}
 use Rattle.calls_text.proofs.decimal.read.Tie as tie
-use Rattle.calls_text.proofs.decimal.read.Reads as reads
-use Rattle.calls_text.proofs.decimal.read.Lts as lts
-use Rattle.calls_text.proofs.decimal.with_digit.Reads as with-digit-reads
 
 abbrev Inv-loop : tie.InvT-loop
 Inv-loop text n₀ i₀ n i = (i ≤ length text) × (withDigits n (drop i text) ≡ numberOf text)

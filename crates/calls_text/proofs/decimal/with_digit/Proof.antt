@@ -1,9 +1,6 @@
 use borrow.Author.Needs.{needs}
 use Rattle.calls_text.proofs.decimal.with_digit.Statement.{statement}
 use Rattle.calls_text.proofs.decimal.with_digit.Tie as tie
-use Rattle.calls_text.proofs.decimal.with_digit.Reads as reads
-use Rattle.calls_text.proofs.decimal.with_digit.Lts as lts
-use Rattle.calls_text.proofs.decimal.joined.Reads as joined-reads
 
 enum-told : tie.Need-enum-told
 enum-told c = search needs

@@ -1,5 +1,5 @@
 -- What is decoded, with the bytes that the rest of the text names, is what the text names.
-use Prim.Native.Nat.{_+_, _*_, _-_, _≤_}
+use Prim.Native.Nat.{_*_, _-_, _≤_}
 use native.Mathlib.Omega.{arith}
 use mathlib.Core.Path.{_≡_, refl, _∙_}
 use mathlib.Core.Bool.{_&&_}
@@ -10,10 +10,6 @@ use Rattle.calls_text.proofs.Hexes.{all-on, all-end, bytes-on, bytes-en
 use borrow.Author.Needs.{needs}
 use Rattle.calls_text.proofs.hex.decode.Statement.{statement}
 use Rattle.calls_text.proofs.hex.decode.Tie as tie
-use Rattle.calls_text.proofs.hex.decode.Reads as reads
-use Rattle.calls_text.proofs.hex.decode.Lts as lts
-use Rattle.calls_text.proofs.hex.is_hex.Reads as is-hex-reads
-use Rattle.calls_text.proofs.hex.value.Reads as value-reads
 
 abbrev Inv-loop : tie.InvT-loop
 Inv-loop text out₀ n all₀ i₀ out all i = (i ≤ n) × (length out ≡ length out₀) × ((all && allHex (drop (i * 2) text)) ≡ allHex text) × (take i out ++ bytesOf (drop (i * 2) text) ≡ bytesOf text)

@@ -2,8 +2,6 @@ use borrow.Author.Tests.{lt-ltb, le-ltb}
 use borrow.Author.Needs.{needs}
 use Rattle.calls_text.proofs.hex.digit.Statement.{statement}
 use Rattle.calls_text.proofs.hex.digit.Tie as tie
-use Rattle.calls_text.proofs.hex.digit.Reads as reads
-use Rattle.calls_text.proofs.hex.digit.Lts as lts
 
 add-result : tie.Need-add-result
 add-result c = search needs

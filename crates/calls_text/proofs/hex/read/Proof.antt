@@ -3,10 +3,6 @@ use Rattle.calls_text.proofs.Hexes.{none-read}
 use borrow.Author.Needs.{needs}
 use Rattle.calls_text.proofs.hex.read.Statement.{statement}
 use Rattle.calls_text.proofs.hex.read.Tie as tie
-use Rattle.calls_text.proofs.hex.read.Reads as reads
-use Rattle.calls_text.proofs.hex.read.Lts as lts
-use Rattle.calls_text.proofs.hex.decode.Reads as decode-reads
-use Rattle.calls_text.proofs.hex.read_none.Reads as read-none-reads
 
 read-none-requires : tie.Need-read-none-requires
 read-none-requires c κs = search needs

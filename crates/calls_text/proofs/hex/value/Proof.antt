@@ -3,8 +3,6 @@ use borrow.Author.Tests.{lt-ltb, le-ltb, le-leb, lt-leb}
 use borrow.Author.Needs.{needs}
 use Rattle.calls_text.proofs.hex.value.Statement.{statement}
 use Rattle.calls_text.proofs.hex.value.Tie as tie
-use Rattle.calls_text.proofs.hex.value.Reads as reads
-use Rattle.calls_text.proofs.hex.value.Lts as lts
 
 returns : tie.Need-returns
 returns c = (simp (lt-ltb _ _ (c .if1 .taken)), omega arith)

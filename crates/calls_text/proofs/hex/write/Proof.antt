@@ -9,9 +9,6 @@ use Rattle.calls_text.proofs.Hexes.{hex-on, hex-end}
 use borrow.Author.Needs.{needs}
 use Rattle.calls_text.proofs.hex.write.Statement.{statement}
 use Rattle.calls_text.proofs.hex.write.Tie as tie
-use Rattle.calls_text.proofs.hex.write.Reads as reads
-use Rattle.calls_text.proofs.hex.write.Lts as lts
-use Rattle.calls_text.proofs.hex.digit.Reads as digit-reads
 
 abbrev Inv-loop : tie.InvT-loop
 Inv-loop bytes out₀ i₀ out i = (i ≤ length bytes) × (length out ≡ length out₀) × (take (i * 2) out ++ hexOf (drop i bytes) ≡ hexOf bytes)

@@ -10,9 +10,6 @@ use Rattle.calls_text.proofs.Walks.{arrow-found, arrow-none}
 use borrow.Author.Needs.{needs}
 use Rattle.calls_text.proofs.scan.arrow.Statement.{statement}
 use Rattle.calls_text.proofs.scan.arrow.Tie as tie
-use Rattle.calls_text.proofs.scan.arrow.Reads as reads
-use Rattle.calls_text.proofs.scan.arrow.Lts as lts
-use Rattle.calls_text.proofs.scan.is_arrow.Reads as is-arrow-reads
 
 abbrev Inv-loop : tie.InvT-loop
 Inv-loop text i₀ i = (i ≤ length text) × ((k : ℕ) → k < i → arrowAt text k ≡ false)

@@ -2,8 +2,6 @@ use borrow.Author.Tests.{le-leb, lt-leb}
 use borrow.Author.Needs.{needs}
 use Rattle.calls_text.proofs.scan.is_arrow.Statement.{statement}
 use Rattle.calls_text.proofs.scan.is_arrow.Tie as tie
-use Rattle.calls_text.proofs.scan.is_arrow.Reads as reads
-use Rattle.calls_text.proofs.scan.is_arrow.Lts as lts
 
 add-if1 : tie.Need-add-if1
 add-if1 c = search needs

@@ -9,9 +9,6 @@ use Rattle.calls_text.proofs.Walks.{Walked, walk-begin, walk-on, walk-f
 use borrow.Author.Needs.{needs}
 use Rattle.calls_text.proofs.scan.skip_blanks.Statement.{statement}
 use Rattle.calls_text.proofs.scan.skip_blanks.Tie as tie
-use Rattle.calls_text.proofs.scan.skip_blanks.Reads as reads
-use Rattle.calls_text.proofs.scan.skip_blanks.Lts as lts
-use Rattle.calls_text.proofs.scan.is_blank.Reads as is-blank-reads
 
 abbrev Inv-loop : tie.InvT-loop
 Inv-loop text from i₀ i = Walked notBlank text from i

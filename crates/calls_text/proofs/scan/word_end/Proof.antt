@@ -1,17 +1,13 @@
 -- The loop has passed bytes that do not end the walk.
 use Prim.Native.Nat.{_-_}
 use native.Mathlib.Omega.{arith}
-use mathlib.Core.Path.{_∙_, sym, ap}
-use mathlib.Core.Bool.{not}
+use mathlib.Core.Path.{_∙_, sym}
 use lib.ListN.{length}
 use Rattle.calls_text.specs.Scan.{isBlank}
 use Rattle.calls_text.proofs.Walks.{Walked, walk-begin, walk-on, walk-found, walk-end}
 use borrow.Author.Needs.{needs}
 use Rattle.calls_text.proofs.scan.word_end.Statement.{statement}
 use Rattle.calls_text.proofs.scan.word_end.Tie as tie
-use Rattle.calls_text.proofs.scan.word_end.Reads as reads
-use Rattle.calls_text.proofs.scan.word_end.Lts as lts
-use Rattle.calls_text.proofs.scan.is_blank.Reads as is-blank-reads
 
 abbrev Inv-loop : tie.InvT-loop
 Inv-loop text from i₀ i = Walked isBlank text from i

@@ -5,9 +5,6 @@ use Rattle.dump.proofs.Reading.{three-read}
 use borrow.Author.Needs.{needs}
 use Rattle.dump.proofs.walk.generation_at.Statement.{statement}
 use Rattle.dump.proofs.walk.generation_at.Tie as tie
-use Rattle.dump.proofs.walk.generation_at.Reads as reads
-use Rattle.dump.proofs.walk.generation_at.Lts as lts
-use Rattle.dump.proofs.reader.read.Reads as read-reads
 
 -- src/walk.rt:110:9
 read-requires : tie.Need-read-requires

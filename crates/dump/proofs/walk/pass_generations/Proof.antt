@@ -5,7 +5,7 @@ use Rattle.model.specs.Dump.{words-of}
 use native.Mathlib.Omega.{arith}
 use borrow.Author.Needs.{needs}
 use lib.ListN.{length}
-use mathlib.Core.Path.{_≡_, refl, sym, _∙_}
+use mathlib.Core.Path.{_≡_}
 use Prim.Native.Nat.{_≤_, _/_}
 use Rattle.dump.proofs.walk.pass_generations.Statement.{statement}
 use Rattle.dump.proofs.walk.pass_generations.Tie as tie

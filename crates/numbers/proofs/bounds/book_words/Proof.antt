@@ -2,9 +2,6 @@ use Rattle.numbers.proofs.Needed.{shares-few, book-some}
 use native.Mathlib.Omega.{arith}
 use Rattle.numbers.proofs.bounds.book_words.Statement.{statement}
 use Rattle.numbers.proofs.bounds.book_words.Tie as tie
-use Rattle.numbers.proofs.bounds.book_words.Reads as reads
-use Rattle.numbers.proofs.bounds.book_words.Lts as lts
-use Rattle.numbers.proofs.starts.place_width.Reads as place-width-reads
 
 -- src/bounds.rt:200:17
 place-width-requires : tie.Need-place-width-requires

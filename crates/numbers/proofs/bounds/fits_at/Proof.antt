@@ -1,10 +1,6 @@
 use borrow.Author.Needs.{needs}
 use Rattle.numbers.proofs.bounds.fits_at.Statement.{statement}
 use Rattle.numbers.proofs.bounds.fits_at.Tie as tie
-use Rattle.numbers.proofs.bounds.fits_at.Reads as reads
-use Rattle.numbers.proofs.bounds.fits_at.Lts as lts
-use Rattle.numbers.proofs.bounds.usable_fit.Reads as usable-fit-reads
-use Rattle.numbers.proofs.bounds.usable_in.Reads as usable-in-reads
 
 -- src/bounds.rt:151:26
 usable-in-requires : tie.Need-usable-in-requires

@@ -2,8 +2,6 @@ use mathlib.Core.Path.{refl}
 use Rattle.model.specs.Settings.{power-of-two}
 use Rattle.numbers.proofs.bounds.is_power_of_two.Statement.{statement}
 use Rattle.numbers.proofs.bounds.is_power_of_two.Tie as tie
-use Rattle.numbers.proofs.bounds.is_power_of_two.Reads as reads
-use Rattle.numbers.proofs.bounds.is_power_of_two.Lts as lts
 
 -- src/bounds.rt:95:1
 returns : tie.Need-returns

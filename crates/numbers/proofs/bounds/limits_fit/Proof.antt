@@ -2,8 +2,6 @@ use mathlib.Core.Path.{refl}
 use Rattle.model.specs.Settings.{limits-fit}
 use Rattle.numbers.proofs.bounds.limits_fit.Statement.{statement}
 use Rattle.numbers.proofs.bounds.limits_fit.Tie as tie
-use Rattle.numbers.proofs.bounds.limits_fit.Reads as reads
-use Rattle.numbers.proofs.bounds.limits_fit.Lts as lts
 
 -- src/bounds.rt:130:1
 returns : tie.Need-returns

@@ -3,9 +3,6 @@ use Rattle.numbers.proofs.Needed.{usable-few, register-some}
 use borrow.Author.Needs.{needs}
 use Rattle.numbers.proofs.bounds.register_words.Statement.{statement}
 use Rattle.numbers.proofs.bounds.register_words.Tie as tie
-use Rattle.numbers.proofs.bounds.register_words.Reads as reads
-use Rattle.numbers.proofs.bounds.register_words.Lts as lts
-use Rattle.numbers.proofs.spans.ring_of.Reads as ring-of-reads
 
 -- src/bounds.rt:179:9
 ring-of-requires : tie.Need-ring-of-requires

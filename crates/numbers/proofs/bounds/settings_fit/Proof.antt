@@ -2,10 +2,6 @@ use Rattle.model.specs.Settings.{settings-fit}
 use borrow.Author.Needs.{needs}
 use Rattle.numbers.proofs.bounds.settings_fit.Statement.{statement}
 use Rattle.numbers.proofs.bounds.settings_fit.Tie as tie
-use Rattle.numbers.proofs.bounds.settings_fit.Reads as reads
-use Rattle.numbers.proofs.bounds.settings_fit.Lts as lts
-use Rattle.numbers.proofs.bounds.fits_at.Reads as fits-at-reads
-use Rattle.numbers.proofs.bounds.shares_fit.Reads as shares-fit-reads
 
 -- src/bounds.rt:158:9
 shares-fit-requires : tie.Need-shares-fit-requires

@@ -1,9 +1,6 @@
 use borrow.Author.Needs.{needs}
 use Rattle.numbers.proofs.bounds.settings_of.Statement.{statement}
 use Rattle.numbers.proofs.bounds.settings_of.Tie as tie
-use Rattle.numbers.proofs.bounds.settings_of.Reads as reads
-use Rattle.numbers.proofs.bounds.settings_of.Lts as lts
-use Rattle.numbers.proofs.bounds.usable_below.Reads as usable-below-reads
 
 -- src/bounds.rt:74:9
 usable-below-requires : tie.Need-usable-below-requires

@@ -2,8 +2,6 @@ use mathlib.Core.Path.{refl}
 use Rattle.model.specs.Settings.{shares-fit}
 use Rattle.numbers.proofs.bounds.shares_fit.Statement.{statement}
 use Rattle.numbers.proofs.bounds.shares_fit.Tie as tie
-use Rattle.numbers.proofs.bounds.shares_fit.Reads as reads
-use Rattle.numbers.proofs.bounds.shares_fit.Lts as lts
 
 -- src/bounds.rt:123:1
 returns : tie.Need-returns

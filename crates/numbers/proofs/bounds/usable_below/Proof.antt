@@ -2,10 +2,6 @@ use borrow.Author.Tests.{lt-ltb, le-ltb}
 use borrow.Author.Needs.{needs}
 use Rattle.numbers.proofs.bounds.usable_below.Statement.{statement}
 use Rattle.numbers.proofs.bounds.usable_below.Tie as tie
-use Rattle.numbers.proofs.bounds.usable_below.Reads as reads
-use Rattle.numbers.proofs.bounds.usable_below.Lts as lts
-use Rattle.numbers.proofs.bounds.no_usable.Reads as no-usable-reads
-use Rattle.numbers.proofs.bounds.usable_of.Reads as usable-of-reads
 
 -- src/bounds.rt:64:21
 shared-slice-read-if1 : tie.Need-shared-slice-read-if1

@@ -2,11 +2,6 @@ use Rattle.model.specs.Settings.{usable-fit}
 use borrow.Author.Needs.{needs}
 use Rattle.numbers.proofs.bounds.usable_fit.Statement.{statement}
 use Rattle.numbers.proofs.bounds.usable_fit.Tie as tie
-use Rattle.numbers.proofs.bounds.usable_fit.Reads as reads
-use Rattle.numbers.proofs.bounds.usable_fit.Lts as lts
-use Rattle.numbers.proofs.bounds.is_power_of_two.Reads as is-power-of-two-reads
-use Rattle.numbers.proofs.bounds.window_fit.Reads as window-fit-reads
-use Rattle.numbers.proofs.spans.ring_of.Reads as ring-of-reads
 
 -- src/bounds.rt:116:9
 window-fit-requires : tie.Need-window-fit-requires

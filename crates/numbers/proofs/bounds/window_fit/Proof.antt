@@ -2,8 +2,6 @@ use mathlib.Core.Path.{refl}
 use Rattle.model.specs.Settings.{window-fit}
 use Rattle.numbers.proofs.bounds.window_fit.Statement.{statement}
 use Rattle.numbers.proofs.bounds.window_fit.Tie as tie
-use Rattle.numbers.proofs.bounds.window_fit.Reads as reads
-use Rattle.numbers.proofs.bounds.window_fit.Lts as lts
 
 -- src/bounds.rt:107:1
 returns : tie.Need-returns

@@ -4,10 +4,6 @@ use Rattle.model.proofs.Bounds.{fit-usable}
 use borrow.Author.Needs.{needs}
 use Rattle.numbers.proofs.bounds.words_at.Statement.{statement}
 use Rattle.numbers.proofs.bounds.words_at.Tie as tie
-use Rattle.numbers.proofs.bounds.words_at.Reads as reads
-use Rattle.numbers.proofs.bounds.words_at.Lts as lts
-use Rattle.numbers.proofs.bounds.register_words.Reads as register-words-reads
-use Rattle.numbers.proofs.bounds.usable_in.Reads as usable-in-reads
 
 -- src/bounds.rt:189:9
 returns : tie.Need-returns

@@ -3,10 +3,6 @@ use Rattle.numbers.proofs.Needed.{needed-is}
 use borrow.Author.Needs.{needs}
 use Rattle.numbers.proofs.bounds.words_needed.Statement.{statement}
 use Rattle.numbers.proofs.bounds.words_needed.Tie as tie
-use Rattle.numbers.proofs.bounds.words_needed.Reads as reads
-use Rattle.numbers.proofs.bounds.words_needed.Lts as lts
-use Rattle.numbers.proofs.bounds.book_words.Reads as book-words-reads
-use Rattle.numbers.proofs.bounds.words_at.Reads as words-at-reads
 
 -- src/bounds.rt:207:9
 words-at-requires : tie.Need-words-at-requires

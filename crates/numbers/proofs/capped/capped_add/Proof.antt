@@ -3,8 +3,6 @@ use native.Mathlib.Omega.{arith}
 use borrow.Author.Needs.{needs}
 use Rattle.numbers.proofs.capped.capped_add.Statement.{statement}
 use Rattle.numbers.proofs.capped.capped_add.Tie as tie
-use Rattle.numbers.proofs.capped.capped_add.Reads as reads
-use Rattle.numbers.proofs.capped.capped_add.Lts as lts
 
 -- src/capped.rt:12:13
 sub-if1 : tie.Need-sub-if1

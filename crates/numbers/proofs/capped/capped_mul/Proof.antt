@@ -5,8 +5,6 @@ use Rattle.numbers.proofs.Arithmetic.{uncapped, capped, short-product, 
 use borrow.Author.Needs.{needs}
 use Rattle.numbers.proofs.capped.capped_mul.Statement.{statement}
 use Rattle.numbers.proofs.capped.capped_mul.Tie as tie
-use Rattle.numbers.proofs.capped.capped_mul.Reads as reads
-use Rattle.numbers.proofs.capped.capped_mul.Lts as lts
 
 mul-result : tie.Need-mul-result
 mul-result c = let k = short-product (c .before .args .a) (c .before .args .b) (c .if1 .taken) in omega arith

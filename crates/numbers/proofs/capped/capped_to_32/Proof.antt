@@ -2,8 +2,6 @@ use native.Mathlib.Omega.{arith}
 use Rattle.model.specs.Numbers.{cap32}
 use Rattle.numbers.proofs.capped.capped_to_32.Statement.{statement}
 use Rattle.numbers.proofs.capped.capped_to_32.Tie as tie
-use Rattle.numbers.proofs.capped.capped_to_32.Reads as reads
-use Rattle.numbers.proofs.capped.capped_to_32.Lts as lts
 
 -- src/capped.rt:34:9
 returns : tie.Need-returns

@@ -3,8 +3,6 @@ use Rattle.numbers.proofs.Arithmetic.{ceil-by-zero, ceil-even, ceil-odd
 use borrow.Author.Needs.{needs}
 use Rattle.numbers.proofs.capped.ceil_div.Statement.{statement}
 use Rattle.numbers.proofs.capped.ceil_div.Tie as tie
-use Rattle.numbers.proofs.capped.ceil_div.Reads as reads
-use Rattle.numbers.proofs.capped.ceil_div.Lts as lts
 
 -- src/capped.rt:44:9
 returns : tie.Need-returns

@@ -2,8 +2,6 @@ use Rattle.model.specs.Class.{class-at}
 use borrow.Author.Tests.{eq-eqb, ne-eqb}
 use Rattle.numbers.proofs.codes.class_at.Statement.{statement}
 use Rattle.numbers.proofs.codes.class_at.Tie as tie
-use Rattle.numbers.proofs.codes.class_at.Reads as reads
-use Rattle.numbers.proofs.codes.class_at.Lts as lts
 
 -- src/codes.rt:23:9
 returns : tie.Need-returns

@@ -2,8 +2,6 @@ use Rattle.model.specs.Class.{class-number}
 use borrow.Author.Needs.{needs}
 use Rattle.numbers.proofs.codes.class_number.Statement.{statement}
 use Rattle.numbers.proofs.codes.class_number.Tie as tie
-use Rattle.numbers.proofs.codes.class_number.Reads as reads
-use Rattle.numbers.proofs.codes.class_number.Lts as lts
 
 -- src/codes.rt:35:27
 enum-told : tie.Need-enum-told

@@ -2,8 +2,6 @@ use Rattle.model.specs.Class.{class-of}
 use borrow.Author.Needs.{needs}
 use Rattle.numbers.proofs.codes.class_of.Statement.{statement}
 use Rattle.numbers.proofs.codes.class_of.Tie as tie
-use Rattle.numbers.proofs.codes.class_of.Reads as reads
-use Rattle.numbers.proofs.codes.class_of.Lts as lts
 
 -- src/codes.rt:45:33
 enum-told : tie.Need-enum-told

@@ -2,8 +2,6 @@ use Rattle.model.specs.Class.{deliverer-fits}
 use mathlib.Core.Path.{refl}
 use Rattle.numbers.proofs.codes.deliverer_fits.Statement.{statement}
 use Rattle.numbers.proofs.codes.deliverer_fits.Tie as tie
-use Rattle.numbers.proofs.codes.deliverer_fits.Reads as reads
-use Rattle.numbers.proofs.codes.deliverer_fits.Lts as lts
 
 -- src/codes.rt:63:1
 returns : tie.Need-returns

@@ -3,9 +3,6 @@ use borrow.Author.Tests.{eq-eqb, ne-eqb}
 use borrow.Author.Needs.{needs}
 use Rattle.numbers.proofs.codes.deliverer_of.Statement.{statement}
 use Rattle.numbers.proofs.codes.deliverer_of.Tie as tie
-use Rattle.numbers.proofs.codes.deliverer_of.Reads as reads
-use Rattle.numbers.proofs.codes.deliverer_of.Lts as lts
-use Rattle.numbers.proofs.codes.class_at.Reads as class-at-reads
 
 -- src/codes.rt:73:9
 returns : tie.Need-returns

@@ -2,8 +2,6 @@ use Rattle.model.specs.Codes.{start-of}
 use borrow.Author.Tests.{eq-eqb, ne-eqb}
 use Rattle.numbers.proofs.codes.start_of.Statement.{statement}
 use Rattle.numbers.proofs.codes.start_of.Tie as tie
-use Rattle.numbers.proofs.codes.start_of.Reads as reads
-use Rattle.numbers.proofs.codes.start_of.Lts as lts
 
 -- src/codes.rt:94:9
 returns : tie.Need-returns

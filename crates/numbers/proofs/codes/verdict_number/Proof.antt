@@ -2,8 +2,6 @@ use Rattle.model.specs.Codes.{verdict-number}
 use borrow.Author.Needs.{needs}
 use Rattle.numbers.proofs.codes.verdict_number.Statement.{statement}
 use Rattle.numbers.proofs.codes.verdict_number.Tie as tie
-use Rattle.numbers.proofs.codes.verdict_number.Reads as reads
-use Rattle.numbers.proofs.codes.verdict_number.Lts as lts
 
 -- src/codes.rt:106:25
 enum-told : tie.Need-enum-told

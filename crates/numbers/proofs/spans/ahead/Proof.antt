@@ -2,9 +2,6 @@ use Rattle.model.specs.Settings.{ahead}
 use borrow.Author.Needs.{needs}
 use Rattle.numbers.proofs.spans.ahead.Statement.{statement}
 use Rattle.numbers.proofs.spans.ahead.Tie as tie
-use Rattle.numbers.proofs.spans.ahead.Reads as reads
-use Rattle.numbers.proofs.spans.ahead.Lts as lts
-use Rattle.numbers.proofs.capped.larger.Reads as larger-reads
 
 -- src/spans.rt:22:5
 larger-requires : tie.Need-larger-requires

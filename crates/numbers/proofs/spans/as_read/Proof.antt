@@ -2,9 +2,6 @@ use Rattle.model.specs.Generation.{as-read}
 use borrow.Author.Needs.{needs}
 use Rattle.numbers.proofs.spans.as_read.Statement.{statement}
 use Rattle.numbers.proofs.spans.as_read.Tie as tie
-use Rattle.numbers.proofs.spans.as_read.Reads as reads
-use Rattle.numbers.proofs.spans.as_read.Lts as lts
-use Rattle.numbers.proofs.capped.larger.Reads as larger-reads
 
 -- src/spans.rt:102:5
 larger-requires : tie.Need-larger-requires

@@ -2,11 +2,6 @@ use Rattle.model.specs.Judge.{bucket-of}
 use borrow.Author.Needs.{needs}
 use Rattle.numbers.proofs.spans.bucket_of.Statement.{statement}
 use Rattle.numbers.proofs.spans.bucket_of.Tie as tie
-use Rattle.numbers.proofs.spans.bucket_of.Reads as reads
-use Rattle.numbers.proofs.spans.bucket_of.Lts as lts
-use Rattle.numbers.proofs.capped.capped_add.Reads as capped-add-reads
-use Rattle.numbers.proofs.capped.ceil_div.Reads as ceil-div-reads
-use Rattle.numbers.proofs.spans.retained.Reads as retained-reads
 
 -- src/spans.rt:37:57
 retained-requires : tie.Need-retained-requires

@@ -2,8 +2,6 @@ use Rattle.numbers.proofs.Arithmetic.{front-not, front-by}
 use borrow.Author.Needs.{needs}
 use Rattle.numbers.proofs.spans.front_past.Statement.{statement}
 use Rattle.numbers.proofs.spans.front_past.Tie as tie
-use Rattle.numbers.proofs.spans.front_past.Reads as reads
-use Rattle.numbers.proofs.spans.front_past.Lts as lts
 
 -- src/spans.rt:93:9
 returns : tie.Need-returns

@@ -2,8 +2,6 @@ use Rattle.numbers.proofs.Arithmetic.{window-behind, window-ahead}
 use borrow.Author.Needs.{needs}
 use Rattle.numbers.proofs.spans.in_window.Statement.{statement}
 use Rattle.numbers.proofs.spans.in_window.Tie as tie
-use Rattle.numbers.proofs.spans.in_window.Reads as reads
-use Rattle.numbers.proofs.spans.in_window.Lts as lts
 
 -- src/spans.rt:82:9
 returns : tie.Need-returns

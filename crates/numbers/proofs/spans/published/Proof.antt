@@ -2,9 +2,6 @@ use Rattle.model.specs.Register.{published}
 use borrow.Author.Needs.{needs}
 use Rattle.numbers.proofs.spans.published.Statement.{statement}
 use Rattle.numbers.proofs.spans.published.Tie as tie
-use Rattle.numbers.proofs.spans.published.Reads as reads
-use Rattle.numbers.proofs.spans.published.Lts as lts
-use Rattle.numbers.proofs.capped.capped_mul.Reads as capped-mul-reads
 
 -- src/spans.rt:51:12
 capped-mul-requires : tie.Need-capped-mul-requires

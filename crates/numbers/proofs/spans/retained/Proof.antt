@@ -2,9 +2,6 @@ use Rattle.model.specs.Settings.{retained}
 use borrow.Author.Needs.{needs}
 use Rattle.numbers.proofs.spans.retained.Statement.{statement}
 use Rattle.numbers.proofs.spans.retained.Tie as tie
-use Rattle.numbers.proofs.spans.retained.Reads as reads
-use Rattle.numbers.proofs.spans.retained.Lts as lts
-use Rattle.numbers.proofs.capped.larger.Reads as larger-reads
 
 -- src/spans.rt:15:5
 larger-requires : tie.Need-larger-requires

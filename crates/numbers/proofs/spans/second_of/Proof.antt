@@ -2,11 +2,6 @@ use Rattle.model.specs.Book.{second-of}
 use borrow.Author.Needs.{needs}
 use Rattle.numbers.proofs.spans.second_of.Statement.{statement}
 use Rattle.numbers.proofs.spans.second_of.Tie as tie
-use Rattle.numbers.proofs.spans.second_of.Reads as reads
-use Rattle.numbers.proofs.spans.second_of.Lts as lts
-use Rattle.numbers.proofs.capped.capped_mul.Reads as capped-mul-reads
-use Rattle.numbers.proofs.capped.capped_to_32.Reads as capped-to-32-reads
-use Rattle.numbers.proofs.capped.ceil_div.Reads as ceil-div-reads
 
 -- src/spans.rt:59:9
 capped-mul-requires : tie.Need-capped-mul-requires

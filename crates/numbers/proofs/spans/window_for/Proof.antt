@@ -2,8 +2,6 @@ use Rattle.model.specs.Judge.{window-for}
 use borrow.Author.Needs.{needs}
 use Rattle.numbers.proofs.spans.window_for.Statement.{statement}
 use Rattle.numbers.proofs.spans.window_for.Tie as tie
-use Rattle.numbers.proofs.spans.window_for.Reads as reads
-use Rattle.numbers.proofs.spans.window_for.Lts as lts
 
 -- src/spans.rt:69:33
 enum-told : tie.Need-enum-told

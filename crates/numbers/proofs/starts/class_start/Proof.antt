@@ -4,10 +4,6 @@ use native.Mathlib.Omega.{arith}
 use borrow.Author.Needs.{needs}
 use Rattle.numbers.proofs.starts.class_start.Statement.{statement}
 use Rattle.numbers.proofs.starts.class_start.Tie as tie
-use Rattle.numbers.proofs.starts.class_start.Reads as reads
-use Rattle.numbers.proofs.starts.class_start.Lts as lts
-use Rattle.numbers.proofs.codes.class_number.Reads as class-number-reads
-use Rattle.numbers.proofs.starts.class_width.Reads as class-width-reads
 
 -- src/starts.rt:34:9
 class-width-requires : tie.Need-class-width-requires

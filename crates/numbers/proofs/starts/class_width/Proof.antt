@@ -5,9 +5,6 @@ use mathlib.Core.Path.{ap}
 use native.Mathlib.Omega.{arith}
 use Rattle.numbers.proofs.starts.class_width.Statement.{statement}
 use Rattle.numbers.proofs.starts.class_width.Tie as tie
-use Rattle.numbers.proofs.starts.class_width.Reads as reads
-use Rattle.numbers.proofs.starts.class_width.Lts as lts
-use Rattle.numbers.proofs.starts.place_width.Reads as place-width-reads
 
 -- src/starts.rt:45:9
 place-width-requires : tie.Need-place-width-requires

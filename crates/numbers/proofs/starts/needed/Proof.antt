@@ -1,9 +1,6 @@
 use borrow.Author.Needs.{needs}
 use Rattle.numbers.proofs.starts.needed.Statement.{statement}
 use Rattle.numbers.proofs.starts.needed.Tie as tie
-use Rattle.numbers.proofs.starts.needed.Reads as reads
-use Rattle.numbers.proofs.starts.needed.Lts as lts
-use Rattle.numbers.proofs.bounds.words_needed.Reads as words-needed-reads
 
 -- src/starts.rt:17:5
 words-needed-requires : tie.Need-words-needed-requires

@@ -5,8 +5,6 @@ use native.Mathlib.Omega.{arith}
 use borrow.Author.Needs.{needs}
 use Rattle.numbers.proofs.starts.place_of.Statement.{statement}
 use Rattle.numbers.proofs.starts.place_of.Tie as tie
-use Rattle.numbers.proofs.starts.place_of.Reads as reads
-use Rattle.numbers.proofs.starts.place_of.Lts as lts
 
 usable-in-requires : tie.Need-usable-in-requires
 usable-in-requires c κs = let k = registers≤4 (c .args .s) (c .pre .0) in let h = c .pre .1 in omega (arith, k)

@@ -5,9 +5,6 @@ use native.Mathlib.Omega.{arith}
 use borrow.Author.Needs.{needs}
 use Rattle.numbers.proofs.starts.place_start.Statement.{statement}
 use Rattle.numbers.proofs.starts.place_start.Tie as tie
-use Rattle.numbers.proofs.starts.place_start.Reads as reads
-use Rattle.numbers.proofs.starts.place_start.Lts as lts
-use Rattle.numbers.proofs.starts.place_width.Reads as place-width-reads
 
 -- src/starts.rt:45:9
 place-width-requires : tie.Need-place-width-requires

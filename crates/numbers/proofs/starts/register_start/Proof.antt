@@ -6,11 +6,6 @@ use Rattle.model.proofs.Words.{registers≤4}
 use native.Mathlib.Omega.{arith}
 use Rattle.numbers.proofs.starts.register_start.Statement.{statement}
 use Rattle.numbers.proofs.starts.register_start.Tie as tie
-use Rattle.numbers.proofs.starts.register_start.Reads as reads
-use Rattle.numbers.proofs.starts.register_start.Lts as lts
-use Rattle.numbers.proofs.bounds.usable_in.Reads as usable-in-reads
-use Rattle.numbers.proofs.starts.class_width.Reads as class-width-reads
-use Rattle.numbers.proofs.starts.register_width.Reads as register-width-reads
 
 abbrev Inv-loop : tie.InvT-loop
 Inv-loop s register width a₀ i₀ a i = Added s register a i

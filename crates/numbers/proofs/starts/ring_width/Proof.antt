@@ -4,9 +4,6 @@ use native.Mathlib.Omega.{arith}
 use borrow.Author.Needs.{needs}
 use Rattle.numbers.proofs.starts.ring_width.Statement.{statement}
 use Rattle.numbers.proofs.starts.ring_width.Tie as tie
-use Rattle.numbers.proofs.starts.ring_width.Reads as reads
-use Rattle.numbers.proofs.starts.ring_width.Lts as lts
-use Rattle.numbers.proofs.spans.ring_of.Reads as ring-of-reads
 
 -- src/starts.rt:44:16
 ring-of-requires : tie.Need-ring-of-requires

@@ -3,11 +3,6 @@ use Rattle.register.proofs.InRings.{ring-asks, ring-turns}
 use borrow.Author.Needs.{needs}
 use Rattle.register.proofs.forgetting.fail.Statement.{statement}
 use Rattle.register.proofs.forgetting.fail.Tie as tie
-use Rattle.register.proofs.forgetting.fail.Reads as reads
-use Rattle.register.proofs.forgetting.fail.Lts as lts
-use Rattle.register.proofs.heading.raise_floor.Reads as raise-floor-reads
-use Rattle.register.proofs.places.ring_at.Reads as ring-at-reads
-use Rattle.ring.proofs.drop_bucket.Reads as drop-bucket-reads
 
 -- src/forgetting.rt:20:9
 ring-at-requires : tie.Need-ring-at-requires

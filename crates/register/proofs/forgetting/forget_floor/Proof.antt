@@ -4,8 +4,6 @@ use native.Mathlib.Omega.{arith}
 use borrow.Author.Needs.{needs}
 use Rattle.register.proofs.forgetting.forget_floor.Statement.{statement}
 use Rattle.register.proofs.forgetting.forget_floor.Tie as tie
-use Rattle.register.proofs.forgetting.forget_floor.Reads as reads
-use Rattle.register.proofs.forgetting.forget_floor.Lts as lts
 
 -- src/forgetting.rt:32:5
 slice-write-part : tie.Need-slice-write-part

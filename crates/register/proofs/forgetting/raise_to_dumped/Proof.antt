@@ -2,9 +2,6 @@ use Rattle.register.proofs.Forgets.{dumped-none, dumped-some}
 use borrow.Author.Needs.{needs}
 use Rattle.register.proofs.forgetting.raise_to_dumped.Statement.{statement}
 use Rattle.register.proofs.forgetting.raise_to_dumped.Tie as tie
-use Rattle.register.proofs.forgetting.raise_to_dumped.Reads as reads
-use Rattle.register.proofs.forgetting.raise_to_dumped.Lts as lts
-use Rattle.register.proofs.heading.raise_floor.Reads as raise-floor-reads
 
 -- src/forgetting.rt:42:9
 returns : tie.Need-returns

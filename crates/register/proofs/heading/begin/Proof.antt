@@ -2,9 +2,6 @@ use Rattle.register.proofs.HeadWords.{begin-already, begin-begun}
 use borrow.Author.Needs.{needs}
 use Rattle.register.proofs.heading.begin.Statement.{statement}
 use Rattle.register.proofs.heading.begin.Tie as tie
-use Rattle.register.proofs.heading.begin.Reads as reads
-use Rattle.register.proofs.heading.begin.Lts as lts
-use Rattle.register.proofs.heading.raise_floor.Reads as raise-floor-reads
 
 -- src/heading.rt:80:8
 slice-read-if1 : tie.Need-slice-read-if1

@@ -2,8 +2,6 @@ use Rattle.register.proofs.HeadWords.{floor-reads, no-floor-reads}
 use borrow.Author.Needs.{needs}
 use Rattle.register.proofs.heading.floor.Statement.{statement}
 use Rattle.register.proofs.heading.floor.Tie as tie
-use Rattle.register.proofs.heading.floor.Reads as reads
-use Rattle.register.proofs.heading.floor.Lts as lts
 
 -- src/heading.rt:28:8
 shared-slice-read-if1 : tie.Need-shared-slice-read-if1

@@ -2,8 +2,6 @@ use Rattle.register.proofs.HeadWords.{pending-reads}
 use borrow.Author.Needs.{needs}
 use Rattle.register.proofs.heading.is_pending.Statement.{statement}
 use Rattle.register.proofs.heading.is_pending.Tie as tie
-use Rattle.register.proofs.heading.is_pending.Reads as reads
-use Rattle.register.proofs.heading.is_pending.Lts as lts
 
 -- src/heading.rt:20:5
 shared-slice-read-result : tie.Need-shared-slice-read-result

@@ -2,8 +2,6 @@ use Rattle.register.proofs.HeadWords.{published-reads}
 use borrow.Author.Needs.{needs}
 use Rattle.register.proofs.heading.published_sweep.Statement.{statement}
 use Rattle.register.proofs.heading.published_sweep.Tie as tie
-use Rattle.register.proofs.heading.published_sweep.Reads as reads
-use Rattle.register.proofs.heading.published_sweep.Lts as lts
 
 -- src/heading.rt:48:12
 shared-slice-read-t3 : tie.Need-shared-slice-read-t3

@@ -2,9 +2,6 @@ use Rattle.register.proofs.HeadWords.{by-nothing, by-newest}
 use borrow.Author.Needs.{needs}
 use Rattle.register.proofs.heading.raise_by.Statement.{statement}
 use Rattle.register.proofs.heading.raise_by.Tie as tie
-use Rattle.register.proofs.heading.raise_by.Reads as reads
-use Rattle.register.proofs.heading.raise_by.Lts as lts
-use Rattle.register.proofs.heading.raise_floor.Reads as raise-floor-reads
 
 enum-told : tie.Need-enum-told
 enum-told c = search needs

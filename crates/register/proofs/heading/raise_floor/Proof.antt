@@ -4,8 +4,6 @@ use Rattle.register.proofs.HeadWords.{raise-stays, raise-moves}
 use borrow.Author.Needs.{needs}
 use Rattle.register.proofs.heading.raise_floor.Statement.{statement}
 use Rattle.register.proofs.heading.raise_floor.Tie as tie
-use Rattle.register.proofs.heading.raise_floor.Reads as reads
-use Rattle.register.proofs.heading.raise_floor.Lts as lts
 
 -- src/heading.rt:47:9
 slice-read-if1 : tie.Need-slice-read-if1

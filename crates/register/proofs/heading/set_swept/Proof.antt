@@ -4,9 +4,6 @@ use Rattle.register.proofs.HeadWords.{set-swept-turns}
 use borrow.Author.Needs.{needs}
 use Rattle.register.proofs.heading.set_swept.Statement.{statement}
 use Rattle.register.proofs.heading.set_swept.Tie as tie
-use Rattle.register.proofs.heading.set_swept.Reads as reads
-use Rattle.register.proofs.heading.set_swept.Lts as lts
-use Rattle.numbers.proofs.spans.published.Reads as published-reads
 
 -- src/heading.rt:70:9
 published-requires : tie.Need-published-requires

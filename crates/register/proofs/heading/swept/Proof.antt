@@ -2,8 +2,6 @@ use Rattle.register.proofs.HeadWords.{swept-reads}
 use borrow.Author.Needs.{needs}
 use Rattle.register.proofs.heading.swept.Statement.{statement}
 use Rattle.register.proofs.heading.swept.Tie as tie
-use Rattle.register.proofs.heading.swept.Reads as reads
-use Rattle.register.proofs.heading.swept.Lts as lts
 
 -- src/heading.rt:39:21
 shared-slice-read-t3 : tie.Need-shared-slice-read-t3

@@ -3,9 +3,6 @@ use Rattle.runs.proofs.Cases.{no}
 use borrow.Author.Needs.{needs}
 use Rattle.register.proofs.judging.ahead_for.Statement.{statement}
 use Rattle.register.proofs.judging.ahead_for.Tie as tie
-use Rattle.register.proofs.judging.ahead_for.Reads as reads
-use Rattle.register.proofs.judging.ahead_for.Lts as lts
-use Rattle.register.proofs.judging.late_or_ahead.Reads as late-or-ahead-reads
 
 -- src/judging.rt:74:25
 enum-told : tie.Need-enum-told

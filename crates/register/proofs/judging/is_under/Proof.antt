@@ -2,8 +2,6 @@ use Rattle.register.proofs.HeadWords.{under-reads}
 use borrow.Author.Needs.{needs}
 use Rattle.register.proofs.judging.is_under.Statement.{statement}
 use Rattle.register.proofs.judging.is_under.Tie as tie
-use Rattle.register.proofs.judging.is_under.Reads as reads
-use Rattle.register.proofs.judging.is_under.Lts as lts
 
 -- src/judging.rt:35:6
 shared-slice-read-result : tie.Need-shared-slice-read-result

@@ -3,11 +3,6 @@ use Rattle.register.proofs.Verdicts.{unjudged-turns, judged-turns, judg
 use borrow.Author.Needs.{needs}
 use Rattle.register.proofs.judging.judge.Statement.{statement}
 use Rattle.register.proofs.judging.judge.Tie as tie
-use Rattle.register.proofs.judging.judge.Reads as reads
-use Rattle.register.proofs.judging.judge.Lts as lts
-use Rattle.register.proofs.heading.is_pending.Reads as is-pending-reads
-use Rattle.register.proofs.judging.verdict.Reads as verdict-reads
-use Rattle.register.proofs.sweeping.sweep.Reads as sweep-reads
 
 -- src/judging.rt:62:9
 is-pending-requires : tie.Need-is-pending-requires

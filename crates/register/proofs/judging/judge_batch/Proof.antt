@@ -3,12 +3,6 @@ use Rattle.register.proofs.Verdicts.{batch-turns}
 use borrow.Author.Needs.{needs}
 use Rattle.register.proofs.judging.judge_batch.Statement.{statement}
 use Rattle.register.proofs.judging.judge_batch.Tie as tie
-use Rattle.register.proofs.judging.judge_batch.Reads as reads
-use Rattle.register.proofs.judging.judge_batch.Lts as lts
-use Rattle.numbers.proofs.spans.front_past.Reads as front-past-reads
-use Rattle.numbers.proofs.spans.window_for.Reads as window-for-reads
-use Rattle.register.proofs.judging.ahead_for.Reads as ahead-for-reads
-use Rattle.register.proofs.judging.judge.Reads as judge-reads
 
 -- src/judging.rt:98:9
 judge-requires : tie.Need-judge-requires

@@ -3,14 +3,6 @@ use Rattle.register.proofs.Verdicts.{print-positive, duplicate-reads, l
 use borrow.Author.Needs.{needs}
 use Rattle.register.proofs.judging.verdict.Statement.{statement}
 use Rattle.register.proofs.judging.verdict.Tie as tie
-use Rattle.register.proofs.judging.verdict.Reads as reads
-use Rattle.register.proofs.judging.verdict.Lts as lts
-use Rattle.numbers.proofs.spans.as_read.Reads as as-read-reads
-use Rattle.numbers.proofs.spans.bucket_of.Reads as bucket-of-reads
-use Rattle.numbers.proofs.spans.in_window.Reads as in-window-reads
-use Rattle.numbers.proofs.spans.window_for.Reads as window-for-reads
-use Rattle.register.proofs.judging.is_under.Reads as is-under-reads
-use Rattle.register.proofs.rings.holds_any_class.Reads as holds-any-class-reads
 
 -- src/judging.rt:43:9
 bucket-of-requires : tie.Need-bucket-of-requires

@@ -2,10 +2,6 @@ use Rattle.register.proofs.Verdicts.{print-positive, hash-reads}
 use borrow.Author.Needs.{needs}
 use Rattle.register.proofs.rings.contains_hash.Statement.{statement}
 use Rattle.register.proofs.rings.contains_hash.Tie as tie
-use Rattle.register.proofs.rings.contains_hash.Reads as reads
-use Rattle.register.proofs.rings.contains_hash.Lts as lts
-use Rattle.numbers.proofs.spans.as_read.Reads as as-read-reads
-use Rattle.register.proofs.rings.holds_hash.Reads as holds-hash-reads
 
 -- src/rings.rt:57:9
 as-read-requires : tie.Need-as-read-requires

@@ -4,9 +4,6 @@ use Rattle.register.proofs.Verdicts.{any-reads}
 use borrow.Author.Needs.{needs}
 use Rattle.register.proofs.rings.holds_any_class.Statement.{statement}
 use Rattle.register.proofs.rings.holds_any_class.Tie as tie
-use Rattle.register.proofs.rings.holds_any_class.Reads as reads
-use Rattle.register.proofs.rings.holds_any_class.Lts as lts
-use Rattle.register.proofs.rings.holds_in.Reads as holds-in-reads
 
 rings-of-requires : tie.Need-rings-of-requires
 rings-of-requires c κs = search needs

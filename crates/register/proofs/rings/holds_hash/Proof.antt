@@ -2,10 +2,6 @@ use Rattle.register.proofs.InRings.{ring-asks, ring-reads}
 use borrow.Author.Needs.{needs}
 use Rattle.register.proofs.rings.holds_hash.Statement.{statement}
 use Rattle.register.proofs.rings.holds_hash.Tie as tie
-use Rattle.register.proofs.rings.holds_hash.Reads as reads
-use Rattle.register.proofs.rings.holds_hash.Lts as lts
-use Rattle.register.proofs.places.place_in.Reads as place-in-reads
-use Rattle.ring.proofs.contains_any.Reads as contains-any-reads
 
 -- src/rings.rt:46:9
 place-in-requires : tie.Need-place-in-requires

@@ -2,10 +2,6 @@ use Rattle.register.proofs.InRings.{ring-asks, ring-position, ring-read
 use borrow.Author.Needs.{needs}
 use Rattle.register.proofs.rings.holds_in.Statement.{statement}
 use Rattle.register.proofs.rings.holds_in.Tie as tie
-use Rattle.register.proofs.rings.holds_in.Reads as reads
-use Rattle.register.proofs.rings.holds_in.Lts as lts
-use Rattle.register.proofs.places.place_in.Reads as place-in-reads
-use Rattle.ring.proofs.contains_at.Reads as contains-at-reads
 
 -- src/rings.rt:24:9
 place-in-requires : tie.Need-place-in-requires

@@ -2,9 +2,6 @@ use Rattle.register.proofs.InRings.{ring-asks, room-reads}
 use borrow.Author.Needs.{needs}
 use Rattle.register.proofs.rings.room.Statement.{statement}
 use Rattle.register.proofs.rings.room.Tie as tie
-use Rattle.register.proofs.rings.room.Reads as reads
-use Rattle.register.proofs.rings.room.Lts as lts
-use Rattle.register.proofs.places.ring_at.Reads as ring-at-reads
 use Rattle.ring.proofs.room.Reads as room-reads
 
 -- src/rings.rt:69:9

@@ -3,10 +3,6 @@ use Rattle.register.proofs.InRings.{ring-asks, ring-turns, room-in-ring
 use borrow.Author.Needs.{needs}
 use Rattle.register.proofs.rings.strike.Statement.{statement}
 use Rattle.register.proofs.rings.strike.Tie as tie
-use Rattle.register.proofs.rings.strike.Reads as reads
-use Rattle.register.proofs.rings.strike.Lts as lts
-use Rattle.register.proofs.places.ring_at.Reads as ring-at-reads
-use Rattle.ring.proofs.insert.Reads as insert-reads
 
 -- src/rings.rt:80:9
 ring-at-requires : tie.Need-ring-at-requires

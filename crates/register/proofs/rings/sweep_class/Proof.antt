@@ -3,11 +3,6 @@ use Rattle.register.proofs.InRings.{ring-asks, ring-turns}
 use borrow.Author.Needs.{needs}
 use Rattle.register.proofs.rings.sweep_class.Statement.{statement}
 use Rattle.register.proofs.rings.sweep_class.Tie as tie
-use Rattle.register.proofs.rings.sweep_class.Reads as reads
-use Rattle.register.proofs.rings.sweep_class.Lts as lts
-use Rattle.register.proofs.heading.raise_by.Reads as raise-by-reads
-use Rattle.register.proofs.places.place_in.Reads as place-in-reads
-use Rattle.ring.proofs.sweep.Reads as sweep-reads
 
 -- src/rings.rt:91:9
 place-in-requires : tie.Need-place-in-requires

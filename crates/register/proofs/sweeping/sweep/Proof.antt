@@ -2,13 +2,6 @@ use Rattle.register.proofs.Sweeps.{sweep-idle, sweep-same, sweep-back, 
 use borrow.Author.Needs.{needs}
 use Rattle.register.proofs.sweeping.sweep.Statement.{statement}
 use Rattle.register.proofs.sweeping.sweep.Tie as tie
-use Rattle.register.proofs.sweeping.sweep.Reads as reads
-use Rattle.register.proofs.sweeping.sweep.Lts as lts
-use Rattle.numbers.proofs.spans.through_of.Reads as through-of-reads
-use Rattle.register.proofs.heading.is_pending.Reads as is-pending-reads
-use Rattle.register.proofs.heading.set_swept.Reads as set-swept-reads
-use Rattle.register.proofs.sweeping.sweep_from.Reads as sweep-from-reads
-use Rattle.register.proofs.sweeping.sweep_rings.Reads as sweep-rings-reads
 
 -- src/sweeping.rt:43:8
 is-pending-requires : tie.Need-is-pending-requires

@@ -2,10 +2,6 @@ use Rattle.register.proofs.Sweeps.{rings-turns}
 use borrow.Author.Needs.{needs}
 use Rattle.register.proofs.sweeping.sweep_rings.Statement.{statement}
 use Rattle.register.proofs.sweeping.sweep_rings.Tie as tie
-use Rattle.register.proofs.sweeping.sweep_rings.Reads as reads
-use Rattle.register.proofs.sweeping.sweep_rings.Lts as lts
-use Rattle.register.proofs.heading.set_swept.Reads as set-swept-reads
-use Rattle.register.proofs.rings.sweep_class.Reads as sweep-class-reads
 
 -- src/sweeping.rt:31:5
 sweep-class-requires : tie.Need-sweep-class-requires

@@ -1,14 +1,8 @@
-use mathlib.Core.Path.{_≡_}
-use Prim.Native.Nat.{_+_, _-_, _≤_}
+use Prim.Native.Nat.{_≤_}
 use lib.ListN.{length}
 use borrow.Author.Needs.{needs}
 use Rattle.replay.proofs.compare.same_words.Statement.{statement}
 use Rattle.replay.proofs.compare.same_words.Tie as tie
-use Rattle.replay.proofs.compare.same_words.Reads as reads
-use Rattle.replay.proofs.compare.same_words.Lts as lts
-use Rattle.calls_text.proofs.scan.skip_blanks.Reads as skip-blanks-reads
-use Rattle.calls_text.proofs.scan.word_end.Reads as word-end-reads
-use Rattle.check.proofs.same.Reads as same-reads
 
 abbrev Inv-loop : tie.InvT-loop
 Inv-loop a b i₀ j₀ turns₀ i j turns = (i ≤ length a) × (j ≤ length b)

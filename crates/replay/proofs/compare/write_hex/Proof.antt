@@ -1,14 +1,9 @@
 use mathlib.Core.Path.{_≡_}
-use Prim.Native.Nat.{_+_, _-_, _≤_}
+use Prim.Native.Nat.{_-_, _≤_}
 use lib.ListN.{length}
 use borrow.Author.Needs.{needs}
 use Rattle.replay.proofs.compare.write_hex.Statement.{statement}
 use Rattle.replay.proofs.compare.write_hex.Tie as tie
-use Rattle.replay.proofs.compare.write_hex.Reads as reads
-use Rattle.replay.proofs.compare.write_hex.Lts as lts
-use Rattle.replay.proofs.compare.between.Reads as between-reads
-use Rattle.replay.proofs.compare.piece_end.Reads as piece-end-reads
-use Rattle.replay.proofs.compare.write_piece.Reads as write-piece-reads
 
 abbrev Inv-loop : tie.InvT-loop
 Inv-loop bytes recorded digits₀ same₀ at₀ digits same at = (at ≤ length bytes) × (length digits ≡ length digits₀)

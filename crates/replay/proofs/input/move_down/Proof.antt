@@ -4,8 +4,6 @@ use lib.ListN.{length}
 use borrow.Author.Needs.{needs}
 use Rattle.replay.proofs.input.move_down.Statement.{statement}
 use Rattle.replay.proofs.input.move_down.Tie as tie
-use Rattle.replay.proofs.input.move_down.Reads as reads
-use Rattle.replay.proofs.input.move_down.Lts as lts
 
 abbrev Inv-loop : tie.InvT-loop
 Inv-loop buffer₀ at have n i₀ buffer i = (i ≤ n) × (at + n ≡ have) × (length buffer ≡ length buffer₀)

@@ -5,11 +5,6 @@ use lib.ListN.{length}
 use borrow.Author.Needs.{needs}
 use Rattle.replay.proofs.input.replay.Statement.{statement}
 use Rattle.replay.proofs.input.replay.Tie as tie
-use Rattle.replay.proofs.input.replay.Reads as reads
-use Rattle.replay.proofs.input.replay.Lts as lts
-use Rattle.replay.proofs.input.turn.Reads as turn-reads
-use Rattle.replay.proofs.serve.begin.Reads as begin-reads
-use Rattle.replay.proofs.serve.end.Reads as end-reads
 
 abbrev Inv-loop : tie.InvT-loop
 Inv-loop buffer₀ words₀ kept₀ next₀ args₀ out₀ w₀ tally₀ turns₀ buffer words kept next args out w tally turns =

@@ -1,12 +1,9 @@
 use mathlib.Core.Path.{_≡_}
-use Prim.Native.Nat.{_+_, _-_, _≤_}
+use Prim.Native.Nat.{_-_, _≤_}
 use lib.ListN.{length}
 use borrow.Author.Needs.{needs}
 use Rattle.replay.proofs.run.copy_words.Statement.{statement}
 use Rattle.replay.proofs.run.copy_words.Tie as tie
-use Rattle.replay.proofs.run.copy_words.Reads as reads
-use Rattle.replay.proofs.run.copy_words.Lts as lts
-use Rattle.replay.proofs.run.least.Reads as least-reads
 
 abbrev Inv-loop : tie.InvT-loop
 Inv-loop dst₀ src n i₀ dst i = (i ≤ n) × (length dst ≡ length dst₀)

@@ -1,14 +1,9 @@
 use mathlib.Core.Path.{_≡_}
-use Prim.Native.Nat.{_+_, _-_, _≤_}
+use Prim.Native.Nat.{_-_, _≤_}
 use lib.ListN.{length}
 use borrow.Author.Needs.{needs}
 use Rattle.replay.proofs.run.load.Statement.{statement}
 use Rattle.replay.proofs.run.load.Tie as tie
-use Rattle.replay.proofs.run.load.Reads as reads
-use Rattle.replay.proofs.run.load.Lts as lts
-use Rattle.calls_text.proofs.call.word_at.Reads as word-at-reads
-use Rattle.replay.proofs.run.least.Reads as least-reads
-use Rattle.replay.proofs.run.place_of.Reads as place-of-reads
 
 abbrev Inv-loop : tie.InvT-loop
 Inv-loop settings₀ args n i₀ settings i = (i ≤ n) × (length settings ≡ length settings₀)

@@ -1,11 +1,9 @@
 use mathlib.Core.Path.{_≡_}
-use Prim.Native.Nat.{_+_, _-_, _≤_}
+use Prim.Native.Nat.{_-_, _≤_}
 use lib.ListN.{length}
 use borrow.Author.Needs.{needs}
 use Rattle.replay.proofs.serve.clear.Statement.{statement}
 use Rattle.replay.proofs.serve.clear.Tie as tie
-use Rattle.replay.proofs.serve.clear.Reads as reads
-use Rattle.replay.proofs.serve.clear.Lts as lts
 
 abbrev Inv-loop : tie.InvT-loop
 Inv-loop args₀ i₀ args i = (i ≤ length args₀) × (length args ≡ length args₀)

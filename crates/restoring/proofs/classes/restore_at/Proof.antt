@@ -3,11 +3,6 @@ use Rattle.restoring.proofs.Dumps.{found-acts}
 use borrow.Author.Needs.{needs}
 use Rattle.restoring.proofs.classes.restore_at.Statement.{statement}
 use Rattle.restoring.proofs.classes.restore_at.Tie as tie
-use Rattle.restoring.proofs.classes.restore_at.Reads as reads
-use Rattle.restoring.proofs.classes.restore_at.Lts as lts
-use Rattle.dump.proofs.generation_at.Reads as generation-at-reads
-use Rattle.numbers.proofs.spans.second_of.Reads as second-of-reads
-use Rattle.restoring.proofs.holding.restore_generation.Reads as restore-generation-reads
 
 -- src/classes.rt:27:9
 generation-at-requires : tie.Need-generation-at-requires

@@ -1,12 +1,7 @@
-use native.Mathlib.Omega.{arith}
 use Rattle.restoring.proofs.Dumps.{Walking, walking-start, walking-inside, walking-next, walking-end}
 use borrow.Author.Needs.{needs}
 use Rattle.restoring.proofs.classes.restore_class.Statement.{statement}
 use Rattle.restoring.proofs.classes.restore_class.Tie as tie
-use Rattle.restoring.proofs.classes.restore_class.Reads as reads
-use Rattle.restoring.proofs.classes.restore_class.Lts as lts
-use Rattle.dump.proofs.count_at.Reads as count-at-reads
-use Rattle.restoring.proofs.classes.restore_at.Reads as restore-at-reads
 
 abbrev Inv-loop : tie.InvT-loop
 Inv-loop run₀ s r place class bytes from before left₀ at₀ whole₀ run left at whole = Walking s r class bytes from before run₀ run at left whole

@@ -1,11 +1,7 @@
 use borrow.Author.Needs.{needs}
-use native.Mathlib.Omega.{arith}
 use Rattle.restoring.proofs.Generations.{Returns, returns-start, returns-next, returns-end}
 use Rattle.restoring.proofs.holding.give_back_all.Statement.{statement}
 use Rattle.restoring.proofs.holding.give_back_all.Tie as tie
-use Rattle.restoring.proofs.holding.give_back_all.Reads as reads
-use Rattle.restoring.proofs.holding.give_back_all.Lts as lts
-use Rattle.restoring.proofs.leaves.give_back.Reads as give-back-reads
 
 abbrev Inv-loop : tie.InvT-loop
 Inv-loop run₀ s r h draws left₀ run left = Returns s r h run₀ draws run left

@@ -8,10 +8,6 @@ use native.Mathlib.Omega.{arith}
 use Rattle.restoring.proofs.Generations.{Holds, holds-start, holds-next, holds-stop, holds-end}
 use Rattle.restoring.proofs.holding.hold_all.Statement.{statement}
 use Rattle.restoring.proofs.holding.hold_all.Tie as tie
-use Rattle.restoring.proofs.holding.hold_all.Reads as reads
-use Rattle.restoring.proofs.holding.hold_all.Lts as lts
-use Rattle.dump.proofs.print_at.Reads as print-at-reads
-use Rattle.restoring.proofs.holding.hold_one.Reads as hold-one-reads
 
 abbrev Inv-loop : tie.InvT-loop
 Inv-loop run₀ s r place h bytes at long draws₀ k₀ run draws k = Holds s r h bytes at run₀ run draws k

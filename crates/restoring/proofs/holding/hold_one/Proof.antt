@@ -1,15 +1,9 @@
-use mathlib.Core.Bool.{Bool, true, false}
-use mathlib.Core.Path.{_≡_, refl, subst}
 use borrow.Author.Tests.{not-true, not-false}
 use native.Mathlib.Omega.{arith}
 use Rattle.restoring.proofs.Generations.{one-refused, one-drawn}
 use borrow.Author.Needs.{needs}
 use Rattle.restoring.proofs.holding.hold_one.Statement.{statement}
 use Rattle.restoring.proofs.holding.hold_one.Tie as tie
-use Rattle.restoring.proofs.holding.hold_one.Reads as reads
-use Rattle.restoring.proofs.holding.hold_one.Lts as lts
-use Rattle.restoring.proofs.leaves.draw.Reads as draw-reads
-use Rattle.restoring.proofs.leaves.hold.Reads as hold-reads
 
 -- src/holding.rt:21:9
 draw-requires : tie.Need-draw-requires

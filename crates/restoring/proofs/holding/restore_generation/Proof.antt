@@ -4,11 +4,6 @@ use Rattle.restoring.proofs.Generations.{generation-kept, generation-fa
 use borrow.Author.Needs.{needs}
 use Rattle.restoring.proofs.holding.restore_generation.Statement.{statement}
 use Rattle.restoring.proofs.holding.restore_generation.Tie as tie
-use Rattle.restoring.proofs.holding.restore_generation.Reads as reads
-use Rattle.restoring.proofs.holding.restore_generation.Lts as lts
-use Rattle.restoring.proofs.holding.give_back_all.Reads as give-back-all-reads
-use Rattle.restoring.proofs.holding.hold_all.Reads as hold-all-reads
-use Rattle.restoring.proofs.leaves.fail.Reads as fail-reads
 
 -- src/holding.rt:73:9
 hold-all-requires : tie.Need-hold-all-requires

@@ -6,14 +6,6 @@ use Rattle.model.proofs.Bounds.{fit-shares}
 use borrow.Author.Needs.{needs}
 use Rattle.restoring.proofs.leaves.draw.Statement.{statement}
 use Rattle.restoring.proofs.leaves.draw.Tie as tie
-use Rattle.restoring.proofs.leaves.draw.Reads as reads
-use Rattle.restoring.proofs.leaves.draw.Lts as lts
-use Rattle.book.proofs.decide.is_granted.Reads as is-granted-reads
-use Rattle.book.proofs.front.is_closed.Reads as is-closed-reads
-use Rattle.book.proofs.front.kept_limits.Reads as kept-limits-reads
-use Rattle.book.proofs.take.Reads as take-reads
-use Rattle.numbers.proofs.starts.class_start.Reads as class-start-reads
-use Rattle.numbers.proofs.starts.class_width.Reads as class-width-reads
 
 -- src/leaves.rt:128:37
 sub-kept-limits : tie.Need-sub-kept-limits

@@ -3,9 +3,6 @@ use Rattle.taking.proofs.InRun.{register-asks}
 use borrow.Author.Needs.{needs}
 use Rattle.restoring.proofs.leaves.fail.Statement.{statement}
 use Rattle.restoring.proofs.leaves.fail.Tie as tie
-use Rattle.restoring.proofs.leaves.fail.Reads as reads
-use Rattle.restoring.proofs.leaves.fail.Lts as lts
-use Rattle.register.proofs.fail.Reads as fail-reads
 
 -- src/leaves.rt:87:20
 mul-fail : tie.Need-mul-fail

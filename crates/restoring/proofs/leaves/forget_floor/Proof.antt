@@ -2,9 +2,6 @@ use Rattle.restoring.proofs.Registers.{forget-acts}
 use borrow.Author.Needs.{needs}
 use Rattle.restoring.proofs.leaves.forget_floor.Statement.{statement}
 use Rattle.restoring.proofs.leaves.forget_floor.Tie as tie
-use Rattle.restoring.proofs.leaves.forget_floor.Reads as reads
-use Rattle.restoring.proofs.leaves.forget_floor.Lts as lts
-use Rattle.register.proofs.forget_floor.Reads as forget-floor-reads
 
 -- src/leaves.rt:109:28
 mul-forget-floor : tie.Need-mul-forget-floor

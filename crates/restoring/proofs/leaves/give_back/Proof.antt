@@ -5,11 +5,6 @@ use Rattle.model.proofs.Bounds.{fit-shares}
 use borrow.Author.Needs.{needs}
 use Rattle.restoring.proofs.leaves.give_back.Statement.{statement}
 use Rattle.restoring.proofs.leaves.give_back.Tie as tie
-use Rattle.restoring.proofs.leaves.give_back.Reads as reads
-use Rattle.restoring.proofs.leaves.give_back.Lts as lts
-use Rattle.book.proofs.untake.Reads as untake-reads
-use Rattle.numbers.proofs.starts.class_start.Reads as class-start-reads
-use Rattle.numbers.proofs.starts.class_width.Reads as class-width-reads
 
 -- src/leaves.rt:146:9
 class-start-requires : tie.Need-class-start-requires

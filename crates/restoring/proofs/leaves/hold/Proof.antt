@@ -3,9 +3,6 @@ use Rattle.taking.proofs.InRun.{register-asks}
 use borrow.Author.Needs.{needs}
 use Rattle.restoring.proofs.leaves.hold.Statement.{statement}
 use Rattle.restoring.proofs.leaves.hold.Tie as tie
-use Rattle.restoring.proofs.leaves.hold.Reads as reads
-use Rattle.restoring.proofs.leaves.hold.Lts as lts
-use Rattle.restoring.proofs.leaves.hold_in.Reads as hold-in-reads
 
 -- src/leaves.rt:74:13
 mul-hold-in : tie.Need-mul-hold-in

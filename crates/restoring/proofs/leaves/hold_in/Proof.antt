@@ -5,11 +5,6 @@ use native.Mathlib.Omega.{arith}
 use borrow.Author.Needs.{needs}
 use Rattle.restoring.proofs.leaves.hold_in.Statement.{statement}
 use Rattle.restoring.proofs.leaves.hold_in.Tie as tie
-use Rattle.restoring.proofs.leaves.hold_in.Reads as reads
-use Rattle.restoring.proofs.leaves.hold_in.Lts as lts
-use Rattle.numbers.proofs.spans.as_read.Reads as as-read-reads
-use Rattle.register.proofs.room.Reads as room-reads
-use Rattle.register.proofs.strike.Reads as strike-reads
 
 -- src/leaves.rt:58:9
 as-read-requires : tie.Need-as-read-requires

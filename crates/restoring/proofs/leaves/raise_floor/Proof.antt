@@ -2,9 +2,6 @@ use Rattle.restoring.proofs.Registers.{raise-acts}
 use borrow.Author.Needs.{needs}
 use Rattle.restoring.proofs.leaves.raise_floor.Statement.{statement}
 use Rattle.restoring.proofs.leaves.raise_floor.Tie as tie
-use Rattle.restoring.proofs.leaves.raise_floor.Reads as reads
-use Rattle.restoring.proofs.leaves.raise_floor.Lts as lts
-use Rattle.register.proofs.raise_floor.Reads as raise-floor-reads
 
 -- src/leaves.rt:120:27
 mul-raise-floor : tie.Need-mul-raise-floor

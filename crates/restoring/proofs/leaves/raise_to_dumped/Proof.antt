@@ -2,9 +2,6 @@ use Rattle.restoring.proofs.Registers.{dumped-acts}
 use borrow.Author.Needs.{needs}
 use Rattle.restoring.proofs.leaves.raise_to_dumped.Statement.{statement}
 use Rattle.restoring.proofs.leaves.raise_to_dumped.Tie as tie
-use Rattle.restoring.proofs.leaves.raise_to_dumped.Reads as reads
-use Rattle.restoring.proofs.leaves.raise_to_dumped.Lts as lts
-use Rattle.register.proofs.raise_to_dumped.Reads as raise-to-dumped-reads
 
 -- src/leaves.rt:98:31
 mul-raise-to-dumped : tie.Need-mul-raise-to-dumped

@@ -4,13 +4,6 @@ use Rattle.model.specs.Codes.{answer-number, answer-values}
 use borrow.Author.Needs.{needs}
 use Rattle.strikes_c.proofs.sent.send.Statement.{statement}
 use Rattle.strikes_c.proofs.sent.send.Tie as tie
-use Rattle.strikes_c.proofs.sent.send.Reads as reads
-use Rattle.strikes_c.proofs.sent.send.Lts as lts
-use Rattle.numbers.proofs.codes.verdict_number.Reads as verdict-number-reads
-use Rattle.strikes_c.proofs.sent.Sent.alone.Reads as alone-reads
-use Rattle.strikes_c.proofs.sent.Sent.four.Reads as four-reads
-use Rattle.strikes_c.proofs.sent.Sent.one.Reads as one-reads
-use Rattle.strikes_c.proofs.sent.Sent.two.Reads as two-reads
 
 -- src/sent.rt:115:25
 enum-known-answer : tie.Need-enum-known-answer

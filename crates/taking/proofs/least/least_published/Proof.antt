@@ -5,8 +5,6 @@ use Rattle.taking.proofs.LeastOf.{Least, least-start, least-more, least
 use borrow.Author.Needs.{needs}
 use Rattle.taking.proofs.least.least_published.Statement.{statement}
 use Rattle.taking.proofs.least.least_published.Tie as tie
-use Rattle.taking.proofs.least.least_published.Reads as reads
-use Rattle.taking.proofs.least.least_published.Lts as lts
 
 abbrev Inv-loop : tie.InvT-loop
 Inv-loop run s n least₀ r₀ least r = Least s least₀ run least r

@@ -7,8 +7,6 @@ use Rattle.taking.proofs.Draws.{enter-asks, enter-turns, enter-words}
 use borrow.Author.Needs.{needs}
 use Rattle.taking.proofs.shares.enter.Statement.{statement}
 use Rattle.taking.proofs.shares.enter.Tie as tie
-use Rattle.taking.proofs.shares.enter.Reads as reads
-use Rattle.taking.proofs.shares.enter.Lts as lts
 
 class-of-requires : tie.Need-class-of-requires
 class-of-requires c κs = search needs

@@ -2,8 +2,6 @@ use Rattle.taking.proofs.Draws.{draw-asks, share-reads}
 use borrow.Author.Needs.{needs}
 use Rattle.taking.proofs.shares.look.Statement.{statement}
 use Rattle.taking.proofs.shares.look.Tie as tie
-use Rattle.taking.proofs.shares.look.Reads as reads
-use Rattle.taking.proofs.shares.look.Lts as lts
 
 find-requires : tie.Need-find-requires
 find-requires c κs = search needs

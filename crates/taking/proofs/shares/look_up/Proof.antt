@@ -9,8 +9,6 @@ use Rattle.taking.proofs.Draws.{limits-are-fit, look-reads}
 use borrow.Author.Needs.{needs}
 use Rattle.taking.proofs.shares.look_up.Statement.{statement}
 use Rattle.taking.proofs.shares.look_up.Tie as tie
-use Rattle.taking.proofs.shares.look_up.Reads as reads
-use Rattle.taking.proofs.shares.look_up.Lts as lts
 
 sub-kept-limits : tie.Need-sub-kept-limits
 sub-kept-limits c = search needs

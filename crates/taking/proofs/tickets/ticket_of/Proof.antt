@@ -6,8 +6,6 @@ use mathlib.Core.Path.{refl, _∙_, ap}
 use borrow.Author.Needs.{needs}
 use Rattle.taking.proofs.tickets.ticket_of.Statement.{statement}
 use Rattle.taking.proofs.tickets.ticket_of.Tie as tie
-use Rattle.taking.proofs.tickets.ticket_of.Reads as reads
-use Rattle.taking.proofs.tickets.ticket_of.Lts as lts
 
 as-read-requires : tie.Need-as-read-requires
 as-read-requires c κs = search needs

@@ -4,8 +4,6 @@ use Rattle.taking.proofs.InRun.{register-asks, judged-words}
 use borrow.Author.Needs.{needs}
 use Rattle.taking.proofs.whole.judge.Statement.{statement}
 use Rattle.taking.proofs.whole.judge.Tie as tie
-use Rattle.taking.proofs.whole.judge.Reads as reads
-use Rattle.taking.proofs.whole.judge.Lts as lts
 
 mul-judge : tie.Need-mul-judge
 mul-judge c = search needs

@@ -4,8 +4,6 @@ use Rattle.taking.proofs.InRun.{register-asks, batch-words}
 use borrow.Author.Needs.{needs}
 use Rattle.taking.proofs.whole.judge_batch.Statement.{statement}
 use Rattle.taking.proofs.whole.judge_batch.Tie as tie
-use Rattle.taking.proofs.whole.judge_batch.Reads as reads
-use Rattle.taking.proofs.whole.judge_batch.Lts as lts
 
 mul-judge-batch : tie.Need-mul-judge-batch
 mul-judge-batch c = search needs

@@ -3,8 +3,6 @@ use Rattle.taking.proofs.InRun.{register-asks}
 use borrow.Author.Needs.{needs}
 use Rattle.taking.proofs.whole.published.Statement.{statement}
 use Rattle.taking.proofs.whole.published.Tie as tie
-use Rattle.taking.proofs.whole.published.Reads as reads
-use Rattle.taking.proofs.whole.published.Lts as lts
 
 place-of-requires : tie.Need-place-of-requires
 place-of-requires c κs = search needs

@@ -3,8 +3,6 @@ use Rattle.taking.proofs.InRun.{register-asks}
 use borrow.Author.Needs.{needs}
 use Rattle.taking.proofs.whole.room.Statement.{statement}
 use Rattle.taking.proofs.whole.room.Tie as tie
-use Rattle.taking.proofs.whole.room.Reads as reads
-use Rattle.taking.proofs.whole.room.Lts as lts
 
 class-of-requires : tie.Need-class-of-requires
 class-of-requires c κs = search needs

@@ -3,8 +3,6 @@ use Rattle.taking.proofs.InRun.{register-asks}
 use borrow.Author.Needs.{needs}
 use Rattle.taking.proofs.whole.strike.Statement.{statement}
 use Rattle.taking.proofs.whole.strike.Tie as tie
-use Rattle.taking.proofs.whole.strike.Reads as reads
-use Rattle.taking.proofs.whole.strike.Lts as lts
 
 class-of-requires : tie.Need-class-of-requires
 class-of-requires c κs = search needs

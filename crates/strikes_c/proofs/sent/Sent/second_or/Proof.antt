@@ -2,8 +2,6 @@ use Rattle.strikes_c.proofs.Sending.{none-there, one-there}
 use mathlib.Core.List.{[], _∷_}
 use Rattle.strikes_c.proofs.sent.Sent.second_or.Statement.{statement}
 use Rattle.strikes_c.proofs.sent.Sent.second_or.Tie as tie
-use Rattle.strikes_c.proofs.sent.Sent.second_or.Reads as reads
-use Rattle.strikes_c.proofs.sent.Sent.second_or.Lts as lts
 
 -- src/sent.rt:86:13
 returns : tie.Need-returns
