@@ -52,8 +52,9 @@ FAULTS = {
     ],
     "newest-not-kept": [(GENERATION, "let newest = capped::larger(head.newest, stamp);", "let newest = stamp;")],
     "position-clash-overwritten": [
-        (GENERATION, "if (part[3] != bucket.0) & (part[1] != 0) {", "if (part[3] != bucket.0) & (part[1] == 18446744073709551615) {"),
-        (GENERATION, "    grow(part, known);\n    enter(", "    if part[3] != bucket.0 {\n        drop_all(part);\n    }\n    grow(part, known);\n    enter("),
+        (GENERATION, "(part[Generation::HELD] != 0) {", "(part[Generation::HELD] == 18446744073709551615) {"),
+        (GENERATION, "    grow(part, known);\n    enter(",
+         "    if part[Generation::BUCKET] != bucket.0 {\n        drop_all(part);\n    }\n    grow(part, known);\n    enter("),
     ],
     "ahead-for-late": [
         ("register/src/judging.rt", "Verdict::Late => late_or_ahead(past),", "Verdict::Late => late_or_ahead(true),"),

@@ -1,4 +1,3 @@
-pub mod Counting
 pub mod Whose
 pub mod Spots
 pub mod Twice

@@ -3,6 +3,7 @@ use crate::place;
 use crate::spot;
 use model::Class;
 use model::Shares;
+use numbers::layout;
 use numbers::starts;
 ghost use mathlib.Core.Path.{_≡_};
 ghost use Prim.Native.Nat.{_≤_};
@@ -23,7 +24,7 @@ fn has_from(body: &[u64], shares: Shares, class: Class, from: usize, kind: u64, 
         if !used {
             return false;
         }
-        let b = a + 1;
+        let b = a + layout::PLACE_NUMBER;
         let same = place::same_who(class, kind, number, body[a], body[b]);
         if same {
             return true;
@@ -47,7 +48,7 @@ pub fn distinct(body: &[u64], shares: Shares, class: Class) -> bool
         if !used {
             return true;
         }
-        let b = a + 1;
+        let b = a + layout::PLACE_NUMBER;
         let twice = has_from(body, shares, class, i + 1, body[a], body[b]);
         if twice {
             return false;

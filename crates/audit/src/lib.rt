@@ -2,6 +2,8 @@
 // nothing is believed of them before it is tested, and no sum can wrap.
 use model::Class;
 use model::Shares;
+use numbers::capped::TOP32;
+use numbers::layout;
 ghost use mathlib.Core.Path.{_≡_};
 ghost use mathlib.Core.Bool.{true};
 ghost use lib.ListN.{length};
@@ -10,7 +12,6 @@ ghost use Rattle.model.specs.BookWords.{class-form};
 ghost use Rattle.model.specs.Words.{class-width};
 
 mod apart;
-mod pairs;
 mod place;
 mod places;
 mod spot;
@@ -21,7 +22,17 @@ pub fn class_sound(part: &[u64], shares: Shares, class: Class) -> bool
     requires { ⌜ (shares-fit shares ≡ true) × (length (now part) ≡ class-width shares) ⌝ }
     ensures { λ r. ⌜ r ≡ class-form shares class .test (now (part .entry)) ⌝ }
 {
-    let sound = places::places_sound(&part[4..], shares, class, part[0], part[1], part[2]);
-    let distinct = apart::distinct(&part[4..], shares, class);
-    sound & (distinct & (part[3] <= 4294967295))
+    let entries = part[layout::CLASS_ENTRIES];
+    let holders = part[layout::CLASS_HOLDERS];
+    let units = part[layout::CLASS_UNITS];
+    let sound = places::places_sound(
+        &part[layout::CLASS_HEAD..],
+        shares,
+        class,
+        entries,
+        holders,
+        units,
+    );
+    let distinct = apart::distinct(&part[layout::CLASS_HEAD..], shares, class);
+    sound & (distinct & (part[layout::CLASS_EXPIRED] <= TOP32))
 }

@@ -1,7 +1,8 @@
 // One place: a deliverer, its entries and its pairs.
-use crate::pairs;
 use model::Class;
+use numbers::bounds::MOST_ENTRIES;
 use numbers::codes;
+use numbers::layout;
 ghost use mathlib.Core.Path.{_≡_};
 ghost use Prim.Native.Nat.{_+_, _*_, _≤_};
 ghost use lib.ListN.{length};
@@ -13,7 +14,7 @@ fn kind_sound(class: Class, kind: u64) -> bool
     ensures { λ r. ⌜ r ≡ kind-rule class kind ⌝ }
 {
     let own = codes::class_number(class);
-    (kind == 3) | (kind == own)
+    (kind == codes::RESTORED) | (kind == own)
 }
 
 // A used place is sound: the cells of its pairs lie within it before they are read.
@@ -21,14 +22,14 @@ pub fn place_sound(place: &[u64], pairs: u64, class: Class) -> bool
     requires { ⌜ (pairs ≤ 512) × (length (now place) ≡ 2 * pairs + 4) ⌝ }
     ensures { λ r. ⌜ r ≡ place-rule class pairs (now (place .entry)) ⌝ }
 {
-    let kind = kind_sound(class, place[0]);
-    let entries = place[2];
-    let n = place[3];
+    let kind = kind_sound(class, place[layout::PLACE_KIND]);
+    let entries = place[layout::PLACE_ENTRIES];
+    let n = place[layout::PLACE_PAIRS];
     if !(kind & ((1 <= n) & (n <= pairs))) {
         return false;
     }
-    let sound = pairs::pairs_sound(&place[4..], n as usize, entries);
-    sound & (entries <= 2000000)
+    let sound = pairs::are_sound(&place[layout::PLACE_HEAD..], n as usize, entries);
+    sound & (entries <= MOST_ENTRIES)
 }
 
 // A place is used if it has pairs.
@@ -36,17 +37,17 @@ pub fn in_use(place: &[u64]) -> bool
     requires { ⌜ 4 ≤ length (now place) ⌝ }
     ensures { λ r. ⌜ r ≡ used-place (now (place .entry)) ⌝ }
 {
-    place[3] != 0
+    place[layout::PLACE_PAIRS] != 0
 }
 
 // Whether two kinds and numbers of a class are one deliverer. A restored one has no number, nor has the class Own.
 pub fn same_who(class: Class, kind: u64, number: u64, other: u64, mark: u64) -> bool
     ensures { λ r. ⌜ r ≡ same-deliverer (read-who class kind number) (read-who class other mark) ⌝ }
 {
-    if kind == 3 {
-        return other == 3;
+    if kind == codes::RESTORED {
+        return other == codes::RESTORED;
     }
-    if other == 3 {
+    if other == codes::RESTORED {
         return false;
     }
     match class {

@@ -3,6 +3,8 @@ use crate::place;
 use crate::spot;
 use model::Class;
 use model::Shares;
+use numbers::bounds::MOST_ENTRIES;
+use numbers::layout;
 use numbers::starts;
 use numbers::units;
 ghost use mathlib.Core.Path.{_≡_};
@@ -13,7 +15,7 @@ ghost use Rattle.audit.specs.Spot.{Within, read-from, test-from, totals-
 fn agree(entries: u64, holders: u64, units: u64, sum: u64, used: u64, cost: u64) -> bool
     ensures { λ r. ⌜ r ≡ agreeing entries holders units sum used cost ⌝ }
 {
-    (sum <= 2000000) & ((entries == sum) & ((holders == used) & (units == cost)))
+    (sum <= MOST_ENTRIES) & ((entries == sum) & ((holders == used) & (units == cost)))
 }
 
 // Used places come first and are sound, unused ones are 0, and the three totals are the sums. A place that passed has at most
@@ -46,7 +48,7 @@ pub fn places_sound(
         if !sound {
             return false;
         }
-        let d = a + 2;
+        let d = a + layout::PLACE_ENTRIES;
         let more = body[d];
         let place = units::units_of(shares, class, body[a]);
         sum += more;

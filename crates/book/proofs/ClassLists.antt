@@ -15,7 +15,7 @@ use Rattle.model.specs.BookWords.{number-word}
 use Rattle.model.proofs.BookWords.{same-class-self}
 use Rattle.book.specs.Rules.{names-by}
 use Rattle.book.specs.ClassRules.{place-index}
-use Rattle.book.proofs.PairLists.{eqb-comm}
+use Rattle.pairs.proofs.PairLists.{eqb-comm}
 use Rattle.book.proofs.ClassWords.{nobody}
 
 -- ---- a place's deliverer by its two words

@@ -23,7 +23,7 @@ use Rattle.runs.proofs.Chunks.{flat-append}
 use Rattle.runs.proofs.Words.{drop-zeros}
 use Rattle.model.specs.Class.{class-of, kind-of}
 use Rattle.model.specs.Book.{Pair, Place, Held, total, entries, place-units, entries-in, units, entries-of, pairs-of, listed, place-free, pair-free, draw-test, granted, with-pairs, add-pair, new-place, enter}
-use Rattle.model.specs.BookWords.{most-entries, pair-words, pairs-sound, number-word, encode-place, place-form, class-form}
+use Rattle.model.specs.BookWords.{most-entries, pairs-sound, number-word, encode-place, place-form, class-form}
 use Rattle.model.proofs.BookKept.{granted-is}
 use Rattle.model.proofs.BookWords.{read-flat}
 use Rattle.model.proofs.Pairs.{rising}
@@ -32,12 +32,11 @@ use Rattle.book.specs.declared.Spot.{Spot}
 use Rattle.book.specs.declared.totals.Totals.{Totals}
 use Rattle.book.specs.Sums.{totals-in, totals-of, taken}
 use Rattle.book.specs.Rules.{if-none}
-use Rattle.book.specs.Pairs.{before, second-at, count-at, raise-at, insert-at}
-use Rattle.book.specs.PlaceRules.{Wide, Has, Fits, raised-place, longer-place, opened-words}
+use Rattle.pairs.specs.Pairs.{before, second-at, count-at, raise-at, insert-at}
+use Rattle.book.specs.PlaceRules.{pairs-in, Wide, Has, Fits, raised-place, longer-place, opened-words}
 use Rattle.book.specs.ClassRules.{ClassIs, ClassReads, ClassTurns, place-index, spot-of, Found, Roomy, BodyTurns, entered, drawn-class}
-use Rattle.book.proofs.Shifts.{mid-of, put-of}
-use Rattle.book.proofs.PairWords.{count-word, count-is}
-use Rattle.book.proofs.PairLists.{before-le, second-below, add-listed, add-new}
+use Rattle.pairs.proofs.Shifts.{mid-of, put-of}
+use Rattle.pairs.proofs.PairLists.{before-le, second-below, add-listed, add-new}
 use Rattle.book.proofs.ClassWords.{nobody, only, reads-one, turns-one, flat-cons, flat-long, up-flat, each-ok, few, holders-are, totals-are, words-are, here-ok, put-here, place-long}
 use Rattle.book.proofs.ClassLists.{index-le, entries-none, entries-at, enter-at, enter-none}
 use Rattle.book.proofs.Spots.{at-index, at-entries, at-listed, has-one, here-fine, here-seen, here-pairs, hit, wide, before-is}
@@ -69,11 +68,8 @@ count-most zero (q ∷ qs) = omega arith
 count-most (suc k) (q ∷ qs) = omega (arith, count-most k qs)
 
 -- the count of pair k in a place's words
-pub count-in : (p : Place) (k : ℕ) → k < length (p .pairs) → getD (encode-place p) (4 + (2 * k + 1)) 0 ≡ count-at k (p .pairs)
-count-in p k h =
-    let e : 4 + (2 * k + 1) ≡ suc (suc (suc (suc (2 * k + 1)))) = omega arith in
-    let c = count-word (length (p .pairs)) k (flat pair-words (p .pairs) ++ p .past) h in
-    rw (e, c, read-flat (p .pairs) (p .past)) (count-is k (p .pairs) h)
+pub count-in : (p : Place) (k : ℕ) → count-at k (pairs-in (encode-place p)) ≡ count-at k (p .pairs)
+count-in p k = ap (count-at k) (read-flat (p .pairs) (p .past))
 
 new-words : (b : Shares) (who : Deliverer) (s : ℕ)
     → _≡_ {A = List ℕ} (kind-of who ∷ number-word who 0 ∷ 1 ∷ 1 ∷ s ∷ 1 ∷ replicate (2 * b .pairs - 2) 0) (encode-place (new-place b who s))
@@ -191,11 +187,11 @@ module _ (b : Shares) (who : Deliverer) (ws : List ℕ) (spot : Spot) (r : Roomy
         there : spot .before < length (now .pairs)
         there = second-below (spot .second) (spot .before) (now .pairs) (sym (hit b who ws spot (r .found) some a e ha he) ∙ yes)
 
-        pub raise-asks : Wide (midOf a (e - a) ws) × (spot .before < getD (midOf a (e - a) ws) 3 0) × (getD (midOf a (e - a) ws) (4 + (2 * spot .before + 1)) 0 ≤ most-entries)
+        pub raise-asks : Wide (midOf a (e - a) ws) × (spot .before < getD (midOf a (e - a) ws) 3 0) × (count-at (spot .before) (pairs-in (midOf a (e - a) ws)) ≤ most-entries)
         raise-asks =
             let m = count-most (spot .before) (now .pairs) in
             let f = (here-fine b who ws spot (r .found) some a e ha he) .few in
-            ((wide b who ws spot (r .found) some a e ha he), rw (here-seen b who ws spot (r .found) some a e ha he) there, rw ((here-seen b who ws spot (r .found) some a e ha he), count-in now (spot .before) there) (omega arith))
+            ((wide b who ws spot (r .found) some a e ha he), rw (here-seen b who ws spot (r .found) some a e ha he) there, rw ((here-seen b who ws spot (r .found) some a e ha he), count-in now (spot .before)) (omega arith))
 
         pub enters-listed : (ys : List ℕ) → Turns encode-place (Has (spot .before)) (raised-place (spot .before)) (λ p. tt {0}) (midOf a (e - a) ws) ys (tt {0})
             → BodyTurns b (class-of who) (enter b who (spot .second)) ws (putMid a (e - a) ws ys)

@@ -22,20 +22,19 @@ use Rattle.runs.specs.Turns.{Is}
 use Rattle.runs.proofs.Cases.{by-test, both-true}
 use Rattle.runs.proofs.Walk.{inside}
 use Rattle.model.specs.Numbers.{top32}
-use Rattle.model.specs.Settings.{shares-fit, limits-fit}
+use Rattle.model.specs.Settings.{shares-fit}
 use Rattle.model.specs.Class.{class-of, same-deliverer}
-use Rattle.model.specs.Book.{Place, entries, place-units, entries-in, units, entries-of, pairs-of, listed, together, holders-with, own-after, units-after, place-free, pair-free, draw-room, draw-limits, draw-test}
+use Rattle.model.specs.Book.{Place, entries, place-units, entries-in, units, entries-of, pairs-of, listed, holders-with, own-after, units-after, place-free, pair-free, draw-room, draw-limits, draw-test}
 use Rattle.model.specs.BookWords.{most-entries, pair-words, encode-place, PlaceOk, distinct, class-form}
 use Rattle.model.proofs.Bounds.{shares-bounds}
 use Rattle.model.proofs.BookWords.{read-flat, length-pairs, class-exact, same-class-is}
-use Rattle.model.proofs.Places.{limit-fits}
 use Rattle.book.specs.declared.Spot.{Spot}
 use Rattle.book.specs.declared.place.Seen.{Seen}
-use Rattle.book.specs.Pairs.{before}
+use Rattle.pairs.specs.Pairs.{before}
 use Rattle.book.specs.Rules.{if-none, room-by, decided, names-by}
 use Rattle.book.specs.PlaceRules.{Wide, seen-in}
 use Rattle.book.specs.ClassRules.{ClassIs, ClassReads, place-index, spot-of, Found}
-use Rattle.book.proofs.PairLists.{listed-at}
+use Rattle.pairs.proofs.PairLists.{listed-at}
 use Rattle.book.proofs.ClassWords.{nobody, reads-one, ps, few, holders-are, here, here-ok, seen-here, word-here}
 use Rattle.book.proofs.ClassLists.{names-same, entries-at, pairs-at, entries-none, pairs-none}
 
@@ -245,9 +244,6 @@ module _ (b : Shares) (l : Limits) (closed : Bool) (who : Deliverer) (ws : List 
       let m : spot .listed ≡ listed (spot .second) (pairs-of who xs) = ap (λ (z : Spot). z .listed) (f .at) in
       reads-one b (class-of who) ws (w .is)
       (e ∙ sym (rw (hr, ho, hf, hp) (rw (← m, ← k, ← h, ← n, ← u) at (draw-is b l closed who (spot .second) xs))))
-
-  pub limit-small : limits-fit l ≡ true → together l (class-of who) ≤ 1_000_000
-  limit-small fit = limit-fits l (class-of who) fit
 
   pub some-holder : (first : ℕ) → first ≡ if-none (spot .entries) 1 → 1 ≤ getD ws 1 0 + first
   some-holder first e =

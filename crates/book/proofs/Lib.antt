@@ -1,6 +1,3 @@
-pub mod Shifts
-pub mod PairWords
-pub mod PairLists
 pub mod Judging
 pub mod PlaceTurns
 pub mod ClassWords

@@ -4,9 +4,9 @@ use native.Mathlib.Nat.{zero-add}
 use native.Mathlib.Omega.{arith}
 use mathlib.Core.Path.{_≡_, refl, ap, sym, _∙_}
 use mathlib.Core.Bool.{Bool}
-use mathlib.Core.List.{List, _∷_, _++_, append-nil}
-use lib.ListN.{length, getD, set, take, drop, replicate, length-drop, drop-of-length-le}
-use lib.Seq.{take-all, getD-drop}
+use mathlib.Core.List.{List, [], _∷_, _++_, append-nil}
+use lib.ListN.{length, getD, set, take, drop, replicate, length-drop, length-set, drop-of-length-le}
+use lib.Seq.{take-all, drop-drop}
 use borrow.Rule.Slice.PartMut.{midOf, putMid}
 use Rattle.runs.specs.Chunks.{flat}
 use Rattle.runs.specs.Turns.{Turns}
@@ -17,11 +17,11 @@ use Rattle.model.specs.Book.{Pair, Place, total, entries, with-pairs, later-pai
 use Rattle.model.specs.BookWords.{most-entries, pair-words, read-pairs, encode-place, number-word}
 use Rattle.model.proofs.BookWords.{read-flat, length-read}
 use Rattle.book.specs.declared.place.Seen.{Seen}
-use Rattle.book.specs.declared.cells.Passed.{Passed}
-use Rattle.book.specs.Pairs.{Cells, cells-words, before, passed-in, second-at, raise-at, lower-at, insert-at, remove-at, raised, lowered, inserted, removed, Holds, Takes, Loses}
+use Rattle.pairs.specs.declared.Passed.{Passed}
+use Rattle.pairs.specs.Pairs.{Cells, cells-words, before, passed-in, second-at, raise-at, lower-at, insert-at, remove-at, raised, lowered, inserted, removed, Holds, Takes, Loses}
 use Rattle.book.specs.PlaceRules.{pairs-in, seen-in, Wide, Has, Single, Fits, Sums, raised-place, lowered-place, shorter-place, longer-place, later-place, left-of, opened-words}
-use Rattle.book.proofs.PairWords.{total-part}
-use Rattle.book.proofs.PairLists.{before-le, later-drop, length-raise, length-lower-at, total-raise, total-lower-at, length-insert, total-insert, length-remove, total-remove}
+use Rattle.pairs.proofs.PairWords.{total-part}
+use Rattle.pairs.proofs.PairLists.{before-le, later-drop, length-raise, length-lower-at, total-raise, total-lower-at, length-insert, total-insert, length-remove, total-remove}
 
 -- ---- the words after the head
 pub tail-is : (ws : List ℕ) → midOf 4 (length ws - 4) ws ≡ drop 4 ws
@@ -32,11 +32,36 @@ put-tail a b e n cells ys =
     let d = drop-of-length-le cells {i = length (a ∷ b ∷ e ∷ n ∷ cells) - 4} (omega arith) in
     ap (λ (z : List ℕ). a ∷ b ∷ e ∷ n ∷ z) (rw (d, append-nil))
 
-pub opens : (who : Deliverer) (s k i : ℕ) (ws : List ℕ) → 6 ≤ length ws → k ≡ kind-of who → i ≡ number-word who 0
-    → set (set (set (set (set (set ws 0 k) 1 i) 2 1) 3 1) 4 s) 5 1 ≡ opened-words who s ws
-opens who s k i ws h hk hi =
-    let e = firsts-are 6 0 ws (omega arith) in
-    ap (λ (z : List ℕ). set (set (set (set (set (set z 0 k) 1 i) 2 1) 3 1) 4 s) 5 1) e ∙ rw (hk, hi)
+-- ---- a new place: its head, and then its first pair
+abbrev headed : Deliverer → List ℕ → List ℕ
+headed who cells = kind-of who ∷ number-word who 0 ∷ 1 ∷ 1 ∷ cells
+
+pub new-head : (who : Deliverer) (k i : ℕ) (ws : List ℕ) → 6 ≤ length ws → k ≡ kind-of who → i ≡ number-word who 0
+    → set (set (set (set ws 0 k) 1 i) 2 1) 3 1 ≡ headed who (drop 4 ws)
+new-head who k i ws h hk hi =
+    let e = firsts-are 4 0 ws (omega arith) in
+    ap (λ (z : List ℕ). set (set (set (set z 0 k) 1 i) 2 1) 3 1) e ∙ rw (hk, hi)
+
+module _ (k i : ℕ) (ws : List ℕ) where
+  abbrev with-head : List ℕ
+  with-head = set (set (set (set ws 0 k) 1 i) 2 1) 3 1
+
+  pub head-long : length with-head ≡ length ws
+  head-long = simp length-set
+
+  pub head-room : 6 ≤ length ws → 2 ≤ length (midOf 4 (length with-head - 4) with-head)
+  head-room h = let l = head-long in rw (tail-is with-head, length-drop) (omega arith)
+
+pub opens : (who : Deliverer) (s : ℕ) (ws zs ys : List ℕ) → 6 ≤ length ws → zs ≡ headed who (drop 4 ws)
+    → Turns cells-words (Takes 0 0) (inserted 0 s) (λ x. tt {0}) (midOf 4 (length zs - 4) zs) ys (tt {0})
+    → putMid 4 (length zs - 4) zs ys ≡ opened-words who s ws
+unfolding flat
+opens who s ws zs ys h is t =
+    let cells = drop 4 ws in
+    let long = length-drop 4 ws in
+    let seen : midOf 4 (length zs - 4) zs ≡ cells = tail-is zs ∙ ap (drop 4) is in
+    let y = t .does (record { pairs = []; past = cells }) (record { many = refl; below = omega arith; room = omega arith }) seen .0 in
+    ap (λ (z : List ℕ). putMid 4 (length z - 4) z ys) is ∙ put-tail (kind-of who) (number-word who 0) 1 1 cells ys ∙ rw (y, drop-drop)
 
 -- ---- the cells after other pairs
 same-past : (n m : ℕ) (past : List ℕ) → m ≡ n → past ≡ replicate (2 * (n - m)) 0 ++ drop (2 * (m - n)) past
@@ -179,9 +204,6 @@ module _ (ws ys : List ℕ) (t m gone : ℕ) (hm : m ≡ before t (pairs-in ws))
   }
 
 -- ---- what the functions on cells ask, of a place's words
-pub tail-word : (ws : List ℕ) (j : ℕ) → getD (midOf 4 (length ws - 4) ws) j 0 ≡ getD ws (4 + j) 0
-tail-word ws j = ap (λ (l : List ℕ). getD l j 0) (tail-is ws) ∙ getD-drop 4 ws j 0
-
 pub tail-long : (ws : List ℕ) → Wide ws → 2 * getD ws 3 0 ≤ length (midOf 4 (length ws - 4) ws)
 tail-long ws w = let k = w .long in rw (tail-is ws, length-drop) (omega arith)
 

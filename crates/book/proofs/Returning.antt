@@ -26,11 +26,11 @@ use Rattle.book.specs.declared.Spot.{Spot}
 use Rattle.book.specs.declared.totals.Totals.{Totals}
 use Rattle.book.specs.Sums.{totals-in, totals-of, untaken}
 use Rattle.book.specs.Rules.{if-one}
-use Rattle.book.specs.Pairs.{before, second-at, count-at, lower-at, remove-at}
-use Rattle.book.specs.PlaceRules.{Wide, Has, Single, lowered-place, shorter-place}
+use Rattle.pairs.specs.Pairs.{before, second-at, count-at, lower-at, remove-at}
+use Rattle.book.specs.PlaceRules.{pairs-in, Wide, Has, Single, lowered-place, shorter-place}
 use Rattle.book.specs.ClassRules.{ClassIs, ClassReads, ClassTurns, place-index, spot-of, Found, Listed, BodyTurns, returned}
-use Rattle.book.proofs.Shifts.{mid-of, put-of}
-use Rattle.book.proofs.PairLists.{second-below, lower-many, lower-last, lower-none, listed-at}
+use Rattle.pairs.proofs.Shifts.{mid-of, put-of}
+use Rattle.pairs.proofs.PairLists.{second-below, lower-many, lower-last, lower-none, listed-at}
 use Rattle.book.proofs.ClassWords.{nobody, turns-one, flat-long, up-flat, few, cut, back-ok, holders-are, totals-are, words-cut, lead, lead-long, rest, here-ok, seen-here, put-here, front-long, place-long}
 use Rattle.book.proofs.ClassLists.{index-same, entries-at, pairs-at, pairs-none, back-at, back-none, entries-append, units-append}
 use Rattle.book.proofs.Spots.{at-index, at-entries, at-listed, at-before, has-one}
@@ -238,8 +238,8 @@ module _ (b : Shares) (who : Deliverer) (ws : List ℕ) (spot : Spot) (f : Found
         some-entries : 1 ≤ getD (midOf a (e - a) ws) 2 0
         some-entries = rw seen (holds-some (class-of who) (b .pairs) now fine)
 
-        count-now : getD (midOf a (e - a) ws) (4 + (2 * spot .before + 1)) 0 ≡ count-at (spot .before) (now .pairs)
-        count-now = rw seen (count-in now (spot .before) there)
+        count-now : count-at (spot .before) (pairs-in (midOf a (e - a) ws)) ≡ count-at (spot .before) (now .pairs)
+        count-now = rw seen (count-in now (spot .before))
 
         pub count-asks : Wide (midOf a (e - a) ws) × (spot .before < getD (midOf a (e - a) ws) 3 0)
         count-asks = (wide-now, below-now)
@@ -248,7 +248,7 @@ module _ (b : Shares) (who : Deliverer) (ws : List ℕ) (spot : Spot) (f : Found
         remove-asks = (wide-now, below-now, some-entries)
 
         pub lower-asks : Wide (midOf a (e - a) ws) × (spot .before < getD (midOf a (e - a) ws) 3 0)
-            × (1 ≤ getD (midOf a (e - a) ws) (4 + (2 * spot .before + 1)) 0) × (1 ≤ getD (midOf a (e - a) ws) 2 0)
+            × (1 ≤ count-at (spot .before) (pairs-in (midOf a (e - a) ws))) × (1 ≤ getD (midOf a (e - a) ws) 2 0)
         lower-asks = (wide-now, below-now, rw count-now (count-some 0 (spot .before) (now .pairs) (fine .pairs) there), some-entries)
 
         returns-here : (q : Place) (ys : List ℕ) → ys ≡ encode-place q → q ≡ with-pairs left now
@@ -265,7 +265,7 @@ module _ (b : Shares) (who : Deliverer) (ws : List ℕ) (spot : Spot) (f : Found
         hit-before : second-at (spot .second) (before (spot .second) (now .pairs)) (now .pairs) ≡ true
         hit-before = rw (← before-now) hit-now
 
-        module _ (n : ℕ) (hn : n ≡ getD (midOf a (e - a) ws) (4 + (2 * spot .before + 1)) 0) where
+        module _ (n : ℕ) (hn : n ≡ count-at (spot .before) (pairs-in (midOf a (e - a) ws))) where
           pub returns-single : n ≡ 1 → (ys : List ℕ) → Turns encode-place (Single (spot .before)) (shorter-place (spot .before)) (λ p. tt {0}) (midOf a (e - a) ws) ys (tt {0})
               → BodyTurns b (class-of who) (give-back who (spot .second)) ws (putMid a (e - a) ws ys)
           returns-single one ys t =

@@ -11,13 +11,13 @@ use Rattle.model.specs.declared.Deliverer.{Deliverer}
 use Rattle.model.specs.declared.Shares.{Shares}
 use Rattle.runs.proofs.Cases.{by-test}
 use Rattle.model.specs.Class.{class-of}
-use Rattle.model.specs.Book.{Place, entries, entries-of, pairs-of, listed}
+use Rattle.model.specs.Book.{Place, entries-of, pairs-of, listed}
 use Rattle.model.specs.BookWords.{encode-place, PlaceOk}
 use Rattle.book.specs.declared.Spot.{Spot}
-use Rattle.book.specs.Pairs.{before, second-at}
+use Rattle.pairs.specs.Pairs.{before, second-at}
 use Rattle.book.specs.PlaceRules.{Wide}
 use Rattle.book.specs.ClassRules.{ClassIs, place-index, Found}
-use Rattle.book.proofs.PairLists.{listed-at}
+use Rattle.pairs.proofs.PairLists.{listed-at}
 use Rattle.book.proofs.ClassWords.{nobody, holders-are, here-ok, seen-here}
 use Rattle.book.proofs.ClassLists.{index-le, entries-none, pairs-at}
 use Rattle.book.proofs.Finding.{place-wide}
@@ -60,9 +60,6 @@ module _ (b : Shares) (who : Deliverer) (ws : List ℕ) (spot : Spot) (f : Found
         by-test (ltb (place-index who xs) (length xs))
         (λ t. let k = ltb-true (place-index who xs) (length xs) t in omega arith)
         (λ f. absurd (some (at-entries ∙ entries-none who (spot .second) xs (ltb-false (place-index who xs) (length xs) f))))
-
-    pub held-below : spot .place < getD ws 1 0
-    held-below = let k = holders-are b (class-of who) ws cw in let l = has-one in omega arith
 
     module _ (a e : ℕ) (ha : a ≡ 4 + spot .place * (2 * b .pairs + 4)) (he : e ≡ a + (2 * b .pairs + 4)) where
       abbrev pub here : Place

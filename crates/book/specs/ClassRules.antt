@@ -15,7 +15,7 @@ use Rattle.model.specs.Class.{class-of, same-deliverer}
 use Rattle.model.specs.Book.{Place, Held, entries-of, pairs-of, listed, place-free, pair-free, draw-test, granted, enter, give-back}
 use Rattle.model.specs.BookWords.{class-form, place-form, most-entries}
 use Rattle.book.specs.declared.Spot.{Spot}
-use Rattle.book.specs.Pairs.{before}
+use Rattle.pairs.specs.Pairs.{before}
 
 -- the words of a class, with the bounds that indices and sums need
 pub record ClassIs (b : Shares) (c : Class) (ws : List ℕ) : Type 0 where

@@ -1,4 +1,3 @@
-pub mod Pairs
 pub mod Rules
 pub mod Sums
 pub mod FrontRules

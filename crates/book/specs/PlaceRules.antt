@@ -10,7 +10,7 @@ use Rattle.model.specs.Book.{Pair, Place, total, entries, with-pairs, later-pai
 use Rattle.model.specs.BookWords.{most-entries, read-pairs, pairs-sound, number-word}
 use Rattle.book.specs.declared.place.Seen.{Seen}
 use Rattle.book.specs.declared.place.Left.{Left}
-use Rattle.book.specs.Pairs.{before, second-at, raise-at, lower-at, count-at, insert-at, remove-at}
+use Rattle.pairs.specs.Pairs.{before, second-at, raise-at, lower-at, count-at, insert-at, remove-at}
 
 -- the pairs of a place's words
 abbrev pub pairs-in : List ℕ → List Pair

@@ -6,17 +6,18 @@ ghost use Rattle.model.specs.declared.Settings.{Settings};
 ghost use Rattle.model.specs.Words.{encode-front, FrontOk};
 ghost use Rattle.book.specs.FrontRules.{limited, shut};
 use model::Limits;
+use numbers::layout;
 
 // Sets the five limits.
 pub fn set_limits(front: &mut [u64], limits: Limits)
     requires { ⌜ 11 ≤ length (now front) ⌝ }
     ensures { λ _. ⌜ ((s : Settings) → Turns (encode-front s) FrontOk (limited limits) (λ f. tt {0}) (now (front .entry)) (now (front .exit)) (tt {0})) ⌝ }
 {
-    front[5] = limits.feeder;
-    front[6] = limits.feeders;
-    front[7] = limits.peer;
-    front[8] = limits.peers;
-    front[9] = limits.relay;
+    front[layout::FEEDER_LIMIT] = limits.feeder;
+    front[layout::FEEDERS_LIMIT] = limits.feeders;
+    front[layout::PEER_LIMIT] = limits.peer;
+    front[layout::PEERS_LIMIT] = limits.peers;
+    front[layout::RELAY_LIMIT] = limits.relay;
 }
 
 // Closes the book: every draw from now on is refused.
@@ -24,7 +25,7 @@ pub fn close(front: &mut [u64])
     requires { ⌜ 11 ≤ length (now front) ⌝ }
     ensures { λ _. ⌜ ((s : Settings) → Turns (encode-front s) FrontOk shut (λ f. tt {0}) (now (front .entry)) (now (front .exit)) (tt {0})) ⌝ }
 {
-    front[10] = 1;
+    front[layout::CLOSED] = 1;
 }
 
 // The limits that are kept.
@@ -33,11 +34,11 @@ pub fn kept_limits(front: &[u64]) -> Limits
     ensures { λ r. ⌜ ((s : Settings) → Reads (encode-front s) FrontOk (λ f. f .limits) (now (front .entry)) r) ⌝ }
 {
     Limits {
-        feeder: front[5],
-        feeders: front[6],
-        peer: front[7],
-        peers: front[8],
-        relay: front[9],
+        feeder: front[layout::FEEDER_LIMIT],
+        feeders: front[layout::FEEDERS_LIMIT],
+        peer: front[layout::PEER_LIMIT],
+        peers: front[layout::PEERS_LIMIT],
+        relay: front[layout::RELAY_LIMIT],
     }
 }
 
@@ -46,5 +47,5 @@ pub fn is_closed(front: &[u64]) -> bool
     requires { ⌜ 11 ≤ length (now front) ⌝ }
     ensures { λ r. ⌜ ((s : Settings) → Reads (encode-front s) FrontOk (λ f. f .closed) (now (front .entry)) r) ⌝ }
 {
-    front[10] == 1
+    front[layout::CLOSED] == 1
 }

@@ -1,9 +1,7 @@
 // The share book of one class, in its own part of the lent words: entries, holders, units and `expired`, then P places of 2E + 4
 // words in order of arrival. A draw is a search, a reading test that says why not, and a step that enters.
-mod cells;
 pub mod decide;
 pub mod front;
-pub mod moves;
 pub mod place;
 pub mod totals;
 
@@ -24,7 +22,9 @@ use model::Draw;
 use model::Limits;
 use model::Second;
 use model::Shares;
+use numbers::layout;
 use numbers::starts;
+use pairs::moves;
 
 // What a class holds of one deliverer and one second: the deliverer's place (the first unused one where it has none), its entries
 // and pairs, how many of the pairs are earlier than the second, and whether the second is listed.
@@ -42,11 +42,11 @@ fn find_place(part: &[u64], shares: Shares, who: Deliverer) -> usize
     requires { ⌜ ClassIs shares (class-of who) (now part) ⌝ }
     ensures { λ r. ⌜ ClassReads shares (class-of who) (λ h. place-index who (h .places)) (now (part .entry)) r ⌝ }
 {
-    let holders = part[1] as usize;
+    let holders = part[layout::CLASS_HOLDERS] as usize;
     let mut i = 0;
     while i < holders {
         let a = starts::place_start(shares, i);
-        let b = a + 1;
+        let b = a + layout::PLACE_NUMBER;
         if place::names(who, part[a], part[b]) {
             return i;
         }
@@ -61,7 +61,7 @@ pub fn find(part: &[u64], shares: Shares, who: Deliverer, second: Second) -> Spo
     ensures { λ r. ⌜ ClassReads shares (class-of who) (λ h. spot-of who (second .0) (h .places)) (now (part .entry)) r ⌝ }
 {
     let at = find_place(part, shares, who);
-    let holders = part[1] as usize;
+    let holders = part[layout::CLASS_HOLDERS] as usize;
     if holders <= at {
         return Spot {
             second: second.0,
@@ -102,7 +102,7 @@ pub fn draw(
     let opened = decide::if_none(spot.entries, place);
     let room = decide::room(
         spot.entries,
-        part[1],
+        part[layout::CLASS_HOLDERS],
         shares.places,
         spot.listed,
         spot.pairs,
@@ -114,8 +114,8 @@ pub fn draw(
         who,
         spot.entries,
         spot.entries + 1 + place,
-        part[1] + first,
-        part[2] + 1 + opened,
+        part[layout::CLASS_HOLDERS] + first,
+        part[layout::CLASS_UNITS] + 1 + opened,
         room,
     )
 }
@@ -179,11 +179,11 @@ pub fn held_by(part: &[u64], shares: Shares, who: Deliverer) -> u64
     ensures { λ r. ⌜ ClassReads shares (class-of who) (λ h. entries-of who (h .places)) (now (part .entry)) r ⌝ }
 {
     let at = find_place(part, shares, who);
-    let holders = part[1] as usize;
+    let holders = part[layout::CLASS_HOLDERS] as usize;
     if holders <= at {
         return 0;
     }
-    let a = starts::place_start(shares, at) + 2;
+    let a = starts::place_start(shares, at) + layout::PLACE_ENTRIES;
     part[a]
 }
 
@@ -200,7 +200,7 @@ fn return_place(part: &mut [u64], shares: Shares, who: Deliverer, spot: Spot)
     requires { ⌜ Listed shares who (now part) spot ⌝ }
     ensures { λ _. ⌜ BodyTurns shares (class-of who) (give-back who (spot .second)) (now (part .entry)) (now (part .exit)) ⌝ }
 {
-    let holders = part[1] as usize;
+    let holders = part[layout::CLASS_HOLDERS] as usize;
     let width = starts::place_width(shares);
     let a = starts::place_start(shares, spot.place);
     let e = a + width;

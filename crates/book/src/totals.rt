@@ -1,6 +1,7 @@
 // A class's totals: the first four words of the class's part. A draw, a return and an expiry alter them by `take`, `untake` and
 // `expire`, to which they are lent. Each of these hands the totals by value to the function that does the work; whoever holds
 // the totals by value lends them by `lent_to_take`, `lent_to_untake` and `lent_to_expire`.
+use numbers::layout;
 ghost use mathlib.Core.Path.{_≡_};
 ghost use Prim.Native.Nat.{_≤_};
 ghost use mathlib.Core.List.{_∷_};
@@ -20,10 +21,10 @@ pub fn read(part: &[u64]) -> Totals
     ensures { λ r. ⌜ r ≡ totals-in (now (part .entry)) ⌝ }
 {
     Totals {
-        entries: part[0],
-        holders: part[1],
-        units: part[2],
-        expired: part[3],
+        entries: part[layout::CLASS_ENTRIES],
+        holders: part[layout::CLASS_HOLDERS],
+        units: part[layout::CLASS_UNITS],
+        expired: part[layout::CLASS_EXPIRED],
     }
 }
 
@@ -32,10 +33,10 @@ pub fn write(part: &mut [u64], t: Totals)
     requires { ⌜ 4 ≤ length (now part) ⌝ }
     ensures { λ _. ⌜ now (part .exit) ≡ t .entries ∷ t .holders ∷ t .units ∷ t .expired ∷ drop 4 (now (part .entry)) ⌝ }
 {
-    part[0] = t.entries;
-    part[1] = t.holders;
-    part[2] = t.units;
-    part[3] = t.expired;
+    part[layout::CLASS_ENTRIES] = t.entries;
+    part[layout::CLASS_HOLDERS] = t.holders;
+    part[layout::CLASS_UNITS] = t.units;
+    part[layout::CLASS_EXPIRED] = t.expired;
 }
 
 // ---- the work, by value

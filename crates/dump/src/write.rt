@@ -1,6 +1,7 @@
 // Writing a dump. Each function writes from a byte position on and answers the position after what it wrote.
 use crate::octets::put_word;
 use generation::Generation;
+use numbers::layout;
 ghost use mathlib.Core.Path.{_≡_};
 ghost use mathlib.Core.List.{[], _∷_};
 ghost use Prim.Native.Nat.{_+_, _*_, _<_};
@@ -58,9 +59,9 @@ fn put_generation(out: &mut [u8], at: usize, part: &[u64]) -> usize
     if head.held == 0 {
         return at;
     }
-    let e = (head.slots as usize) + 4;
+    let e = (head.slots as usize) + Generation::HEAD;
     let next = put_three(out, at, head.bucket, head.newest, head.held);
-    put_prints(out, next, &part[4..e])
+    put_prints(out, next, &part[Generation::HEAD..e])
 }
 
 // How many words it takes.
@@ -68,7 +69,7 @@ fn generation_length(part: &[u64]) -> usize
     requires { ⌜ Bounded (now part) ⌝ }
     ensures { λ r. ⌜ r ≡ part-length (now (part .entry)) ⌝ }
 {
-    let held = part[1] as usize;
+    let held = part[Generation::HELD] as usize;
     if held == 0 {
         return 0;
     }
@@ -86,7 +87,7 @@ fn count_held(words: &[u64], wide: usize, ring: usize) -> u64
     let mut a = 0;
     let mut left = ring;
     while 0 < left {
-        let one = generation::one_if_held(words[a + 1]);
+        let one = generation::one_if_held(words[a + Generation::HELD]);
         n += one;
         a += wide;
         left -= 1;
@@ -160,10 +161,10 @@ pub fn dump_length(words: &[u64], wide: usize, ring: usize) -> usize
     ensures { λ r. ⌜ r ≡ register-long wide ring (now (words .entry)) ⌝ }
 {
     let each = ring * wide;
-    let peers = 24 + each;
+    let peers = layout::HEADING + each;
     let own = peers + each;
     let end = own + each;
-    let a = ring_length(&words[24..peers], wide, ring);
+    let a = ring_length(&words[layout::HEADING..peers], wide, ring);
     let b = ring_length(&words[peers..own], wide, ring);
     let c = ring_length(&words[own..end], wide, ring);
     8 * (4 + a + b + c)
@@ -175,12 +176,12 @@ pub fn put_dump(out: &mut [u8], words: &[u64], wide: usize, ring: usize) -> usiz
     ensures { λ r. ⌜ Puts 0 (register-words wide ring (now (words .entry))) (now (out .entry)) (now (out .exit)) r ⌝ }
 {
     let each = ring * wide;
-    let peers = 24 + each;
+    let peers = layout::HEADING + each;
     let own = peers + each;
     let end = own + each;
-    let floor = floor_told(words[8], words[9]);
+    let floor = floor_told(words[layout::HAS_FLOOR], words[layout::FLOOR]);
     put_word(out, 0, floor);
-    let a = put_class(out, 8, &words[24..peers], wide, ring);
+    let a = put_class(out, 8, &words[layout::HEADING..peers], wide, ring);
     let b = put_class(out, a, &words[peers..own], wide, ring);
     put_class(out, b, &words[own..end], wide, ring)
 }

@@ -1,5 +1,6 @@
 // The dump of one register, from its own part of the lent words.
 use model::Usable;
+use numbers::layout;
 use numbers::spans;
 ghost use lib.ListN.{length};
 ghost use Rattle.model.specs.Dump.{dump-bytes};
@@ -12,7 +13,7 @@ pub fn dump_length(part: &[u64], u: Usable) -> usize
     ensures { λ n. ⌜ RegisterReads u (λ reg. length (dump-bytes reg)) (now (part .entry)) n ⌝ }
 {
     let ring = spans::ring_of(u) as usize;
-    let wide = (u.slots as usize) + 4;
+    let wide = (u.slots as usize) + layout::GENERATION_HEAD;
     dump::dump_length(part, wide, ring)
 }
 
@@ -22,6 +23,6 @@ pub fn dump(out: &mut [u8], part: &[u64], u: Usable) -> usize
     ensures { λ n. ⌜ Dumps u (now (part .entry)) (now (out .entry)) (now (out .exit)) n ⌝ }
 {
     let ring = spans::ring_of(u) as usize;
-    let wide = (u.slots as usize) + 4;
+    let wide = (u.slots as usize) + layout::GENERATION_HEAD;
     dump::put_dump(out, part, wide, ring)
 }

@@ -22,7 +22,7 @@ use Rattle.model.proofs.Places.{PlacesOk}
 use Rattle.book.specs.declared.totals.Totals.{Totals}
 use Rattle.book.specs.Sums.{totals-in, totals-of, expired-to}
 use Rattle.book.specs.ClassRules.{ClassIs, ClassTurns}
-use Rattle.book.proofs.Shifts.{mid-of, put-of}
+use Rattle.pairs.proofs.Shifts.{mid-of, put-of}
 use Rattle.book.proofs.ClassWords.{turns-one, flat-long, up-flat, holders-are}
 use Rattle.book.proofs.Finding.{in-part}
 use Rattle.book.proofs.Entering.{class-words}

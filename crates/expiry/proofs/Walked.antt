@@ -21,7 +21,7 @@ use Rattle.model.proofs.Pairs.{length-later, total-later}
 use Rattle.model.proofs.Places.{PlacesOk}
 use Rattle.book.specs.declared.place.Left.{Left}
 use Rattle.book.specs.PlaceRules.{pairs-in, Wide, Sums, later-place, left-of}
-use Rattle.book.proofs.Shifts.{mid-of, put-of}
+use Rattle.pairs.proofs.Shifts.{mid-of, put-of}
 use Rattle.book.proofs.ClassWords.{nobody, flat-cons, flat-long, place-long}
 use Rattle.book.proofs.ClassLists.{entries-append, units-append}
 use Rattle.book.proofs.Finding.{place-wide}

@@ -8,15 +8,16 @@ ghost use Rattle.model.specs.Book.{expire-class};
 ghost use Rattle.model.specs.BookWords.{most-entries};
 ghost use Rattle.book.specs.ClassRules.{ClassIs, ClassTurns};
 ghost use Rattle.expiry.specs.Walks.{with-words, Standing, Steps, Walking, freed-to};
-use book::moves;
 use book::place;
 use book::totals;
 use model::Class;
 use model::Second;
 use model::Shares;
 use numbers::capped;
+use numbers::layout;
 use numbers::starts;
 use numbers::units;
+use pairs::moves;
 
 // The places kept so far, with their entries and units. What the totals lose is what is not kept.
 struct Kept {
@@ -30,8 +31,8 @@ fn with_place(place: &[u64], shares: Shares, class: Class, kept: Kept) -> Kept
     requires { ⌜ (4 ≤ length (now place)) × (getD (now place) 2 0 ≤ most-entries) × (shares .feeder ≤ 4_096) × (shares .peer ≤ 4_096) × (kept .places ≤ 64) × (kept .entries ≤ most-entries) × (kept .units ≤ 2_262_144) ⌝ }
     ensures { λ r. ⌜ r ≡ with-words shares class (now (place .entry)) kept ⌝ }
 {
-    let entries = place[2];
-    let units = units::units_of(shares, class, place[0]);
+    let entries = place[layout::PLACE_ENTRIES];
+    let units = units::units_of(shares, class, place[layout::PLACE_KIND]);
     Kept {
         places: kept.places + 1,
         entries: kept.entries + entries,
@@ -68,7 +69,7 @@ fn expire_places(part: &mut [u64], shares: Shares, class: Class, t: u64) -> Kept
     requires { ⌜ ClassIs shares class (now part) ⌝ }
     ensures { λ r. ⌜ Walking shares class t (now (part .entry)) (getD (now (part .entry)) 1 0) r (now (part .exit)) ⌝ }
 {
-    let holders = part[1] as usize;
+    let holders = part[layout::CLASS_HOLDERS] as usize;
     let mut kept = Kept {
         places: 0,
         entries: 0,
@@ -88,7 +89,7 @@ fn expire_pairs(part: &mut [u64], shares: Shares, class: Class, t: u64)
     ensures { λ _. ⌜ ClassTurns shares class (freed-to t) (λ h. tt {0}) (now (part .entry)) (now (part .exit)) (tt {0}) ⌝ }
 {
     let sums = totals::read(part);
-    let holders = part[1] as usize;
+    let holders = part[layout::CLASS_HOLDERS] as usize;
     let kept = expire_places(part, shares, class, t);
     let places = kept.places;
     let a = starts::place_start(shares, places);
@@ -111,7 +112,7 @@ pub fn expire(part: &mut [u64], shares: Shares, class: Class, t: Second)
     ensures { λ _. ⌜ ClassTurns shares class (expire-class (t .0)) (λ h. tt {0}) (now (part .entry)) (now (part .exit)) (tt {0}) ⌝ }
 {
     let through = t.0;
-    let expired = part[3];
+    let expired = part[layout::CLASS_EXPIRED];
     if capped::capped_to_32(through + 2) < expired {
         let sums = totals::read(part);
         let left = totals::lent_to_expire(sums, 0, 0, 0, through);

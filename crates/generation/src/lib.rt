@@ -7,6 +7,7 @@ use model::Bucket;
 use model::Probe;
 use model::Room;
 use numbers::capped;
+use numbers::layout;
 ghost use mathlib.Core.Path.{_≡_};
 ghost use Prim.Native.Nat.{_≤_, _<_};
 ghost use lib.ListN.{length};
@@ -43,7 +44,16 @@ impl Generation {
     pub const LEAST: u64 = 1;
 
     // The words that lead a run: a generation of at most S slots has S + HEAD.
-    pub const HEAD: usize = 4;
+    pub const HEAD: usize = layout::GENERATION_HEAD;
+
+    // Which word is which.
+    pub const SLOTS: usize = 0;
+
+    pub const HELD: usize = 1;
+
+    pub const NEWEST: usize = 2;
+
+    pub const BUCKET: usize = 3;
 
     // One that holds nothing yet.
     pub fn open() -> Generation
@@ -63,10 +73,10 @@ impl Generation {
         ensures { λ r. ⌜ Leads (now (part .entry)) r ⌝ }
     {
         Generation {
-            slots: part[0],
-            held: part[1],
-            newest: part[2],
-            bucket: part[3],
+            slots: part[Generation::SLOTS],
+            held: part[Generation::HELD],
+            newest: part[Generation::NEWEST],
+            bucket: part[Generation::BUCKET],
         }
     }
 
@@ -75,10 +85,10 @@ impl Generation {
         requires { ⌜ 4 ≤ length (now part) ⌝ }
         ensures { λ _. ⌜ now (part .exit) ≡ led-by self (now (part .entry)) ⌝ }
     {
-        part[0] = self.slots;
-        part[1] = self.held;
-        part[2] = self.newest;
-        part[3] = self.bucket;
+        part[Generation::SLOTS] = self.slots;
+        part[Generation::HELD] = self.held;
+        part[Generation::NEWEST] = self.newest;
+        part[Generation::BUCKET] = self.bucket;
     }
 }
 
@@ -87,7 +97,7 @@ pub fn contains(part: &[u64], fp: u64) -> bool
     requires { ⌜ (0 < fp) × Bounded (now part) ⌝ }
     ensures { λ r. ⌜ GenerationReads (λ S g. among fp (g .slots)) (now (part .entry)) r ⌝ }
 {
-    let n = part[0] as usize;
+    let n = part[Generation::SLOTS] as usize;
     let e = n + Generation::HEAD;
     let p = find(&part[Generation::HEAD..e], fp);
     match p {
@@ -102,7 +112,7 @@ pub fn contains_in(part: &[u64], bucket: Bucket, fp: u64) -> bool
     requires { ⌜ (0 < fp) × Bounded (now part) ⌝ }
     ensures { λ r. ⌜ GenerationReads (λ S. holds-in (bucket .0) fp) (now (part .entry)) r ⌝ }
 {
-    if part[3] != bucket.0 {
+    if part[Generation::BUCKET] != bucket.0 {
         return false;
     }
     contains(part, fp)
@@ -115,10 +125,10 @@ pub fn room(part: &[u64], at: usize, bucket: Bucket, known: bool) -> Room
     ensures { λ r. ⌜ GenerationReads (room-in known (bucket .0) at) (now (part .entry)) r ⌝ }
 {
     let most = (part.len() - Generation::HEAD) as u64;
-    if (part[3] != bucket.0) & (part[1] != 0) {
+    if (part[Generation::BUCKET] != bucket.0) & (part[Generation::HELD] != 0) {
         return Room::Collides;
     }
-    let wanted = slots_for(known, part[0], part[1]);
+    let wanted = slots_for(known, part[Generation::SLOTS], part[Generation::HELD]);
     if wanted <= most {
         return Room::At(at);
     }
@@ -130,10 +140,10 @@ fn grow(part: &mut [u64], known: bool)
     requires { ⌜ Bounded (now part) × Roomy known (now part) ⌝ }
     ensures { λ _. ⌜ Bounded (now (part .exit)) × GenerationTurns (with-slots-for known) silent (now (part .entry)) (now (part .exit)) (tt {0}) ⌝ }
 {
-    let n = part[0] as usize;
-    let wanted = slots_for(known, part[0], part[1]);
+    let n = part[Generation::SLOTS] as usize;
+    let wanted = slots_for(known, part[Generation::SLOTS], part[Generation::HELD]);
     regrow(&mut part[Generation::HEAD..], n, wanted as usize);
-    part[0] = wanted;
+    part[Generation::SLOTS] = wanted;
 }
 
 // A fingerprint is entered under its bucket and its stamp.
@@ -186,7 +196,7 @@ pub fn drop_in(part: &mut [u64], bucket: Bucket) -> Dropped
     requires { ⌜ Bounded (now part) ⌝ }
     ensures { λ r. ⌜ GenerationTurns (dropped-in (bucket .0)) (drop-in-says (bucket .0)) (now (part .entry)) (now (part .exit)) r ⌝ }
 {
-    if part[3] == bucket.0 {
+    if part[Generation::BUCKET] == bucket.0 {
         return drop_all(part);
     }
     Dropped::Nothing
@@ -197,7 +207,7 @@ pub fn sweep_one(part: &mut [u64], through: Bucket) -> Dropped
     requires { ⌜ Bounded (now part) ⌝ }
     ensures { λ r. ⌜ GenerationTurns (swept-at (through .0)) (sweep-says (through .0)) (now (part .entry)) (now (part .exit)) r ⌝ }
 {
-    if part[3] < through.0 {
+    if part[Generation::BUCKET] < through.0 {
         return drop_all(part);
     }
     Dropped::Nothing

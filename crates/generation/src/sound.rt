@@ -81,7 +81,7 @@ pub fn is_sound(part: &[u64], ring: u64, at: u64) -> bool
     requires { ⌜ (0 < ring) × ((4 ≤ length (now part)) × (length (now part) ≤ 1028)) ⌝ }
     ensures { λ r. ⌜ r ≡ generation-sound ring at (now (part .entry)) ⌝ }
 {
-    let n = part[0];
+    let n = part[Generation::SLOTS];
     let most = (part.len() - Generation::HEAD) as u64;
     if most < n {
         return false;
@@ -90,11 +90,11 @@ pub fn is_sound(part: &[u64], ring: u64, at: u64) -> bool
     if !runs::zeros_only(&part[e..]) {
         return false;
     }
-    let held = part[1];
+    let held = part[Generation::HELD];
     if n == 0 {
-        return (held == 0) & (part[2] == 0);
+        return (held == 0) & (part[Generation::NEWEST] == 0);
     }
-    if !filled_sound(ring, at, n, held, part[3]) {
+    if !filled_sound(ring, at, n, held, part[Generation::BUCKET]) {
         return false;
     }
     slots_sound(&part[Generation::HEAD..e], held)

@@ -45,11 +45,8 @@ module _ {A : Type 0} (F : Class → Form A) (exact : (c : Class) → Exact (F c
       (in-part (body-part (F Feeders) (both (F Peers) (F Own)) (exact Feeders) (both-exact (F Peers) (F Own) (exact Peers) (exact Own)))
       (body-part (F Peers) (F Own) (exact Peers) (exact Own))))
 
--- ---- within a register: its own words, and a class's ring
+-- ---- within a register: a class's ring
 module _ (u : Usable) where
-  pub heading-part : Part (register-form u) (heading-form u) 0 (λ reg. of-register reg .head) (λ reg h. register-of (record { head = h; body = reg .rings }))
-  heading-part = seen-part register-of of-register (λ x. refl) (head-part (heading-form u) (each-form (λ c. ring-form u)) (heading-exact u))
-
   pub ring-part : (c : Class) → Part (register-form u) (ring-form u) (ring-start u c) (λ reg. pick c (reg .rings))
       (λ reg ring. register-of (record { head = of-register reg .head; body = swap c ring (reg .rings) }))
   ring-part c =

@@ -1,4 +1,5 @@
 // Settings and limits: read from the words that a host hands in, tested against their bounds, and the words that they need.
+use crate::layout;
 use crate::spans;
 use crate::starts;
 use model::Limits;
@@ -7,7 +8,7 @@ use model::Shares;
 use model::Usable;
 use model::Window;
 ghost use mathlib.Core.Path.{_≡_};
-ghost use mathlib.Core.Bool.{true};
+ghost use mathlib.Core.Bool.{true, cond};
 ghost use Prim.Native.Nat.{_<_, _≤_};
 ghost use lib.ListN.{length};
 ghost use Rattle.model.specs.Settings.{usable-of as usable-in, usable-below as usable-read, no-usable as no-settings, settings-of as settings-in, limits-of as limits-in, usable-at, power-of-two, window-fit as window-within, usable-fit as usable-within, shares-fit as shares-within, limits-fit as limits-within, settings-fit as settings-within, fit-at, register-words, words-for, book-words as places-words, words-needed as needed};
@@ -20,6 +21,9 @@ pub const LIMITS: usize = 5;
 const SPAN: u64 = 3_600_000;
 
 const MOST: u64 = 1_000_000;
+
+// The most entries of a place, and of a class.
+pub const MOST_ENTRIES: u64 = 2_000_000;
 
 fn no_usable() -> Usable
     ensures { λ r. ⌜ r ≡ no-settings ⌝ }
@@ -177,7 +181,7 @@ fn register_words(u: Usable) -> u64
     ensures { λ r. ⌜ (r ≡ register-words u) × (r ≤ 789_504) ⌝ }
 {
     let ring = spans::ring_of(u);
-    3 * ring * (u.slots + 4)
+    3 * ring * (u.slots + layout::GENERATION_HEAD as u64)
 }
 
 // The same for a register by its number; 0 where there is no such register.
@@ -200,8 +204,8 @@ fn book_words(b: Shares) -> u64
     3 * b.places * place
 }
 
-// The words that settings in bounds need.
-pub fn words_needed(s: Settings) -> u64
+// The words that settings in bounds need, for whoever has tested them.
+pub fn words_in_bounds(s: Settings) -> u64
     requires { ⌜ settings-within s ≡ true ⌝ }
     ensures { λ n. ⌜ n ≡ needed s ⌝ }
 {
@@ -211,4 +215,14 @@ pub fn words_needed(s: Settings) -> u64
     let d = words_at(s, 3);
     let book = book_words(s.shares);
     a + b + c + d + book + 128
+}
+
+// The words that any settings need: 0 where they are out of bounds, since no words serve those.
+pub fn words_needed(s: Settings) -> u64
+    ensures { λ n. ⌜ n ≡ cond (settings-within s) (needed s) 0 ⌝ }
+{
+    if !settings_fit(s) {
+        return 0;
+    }
+    words_in_bounds(s)
 }

@@ -5,7 +5,7 @@ ghost use Rattle.model.specs.Numbers.{cap64, cap32, ceil};
 
 const TOP64: u64 = 18446744073709551615;
 
-const TOP32: u64 = 4294967295;
+pub const TOP32: u64 = 4294967295;
 
 pub fn capped_add(a: u64, b: u64) -> u64
     ensures { λ r. ⌜ r ≡ cap64 (a + b) ⌝ }

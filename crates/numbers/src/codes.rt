@@ -7,6 +7,15 @@ ghost use mathlib.Core.Path.{_≡_};
 ghost use Rattle.model.specs.Class.{class-number as number-of-class, class-fits as listed-class, class-at as class-with, class-of as class-for, deliverer-fits as listed-deliverer, deliverer-of as deliverer-with};
 ghost use Rattle.model.specs.Codes.{flag-fits as listed-flag, start-fits as listed-start, start-of as start-with, verdict-number as number-of-verdict};
 
+// The kinds of deliverers.
+pub const FEEDER: u64 = 0;
+
+pub const PEER: u64 = 1;
+
+pub const RELAY: u64 = 2;
+
+pub const RESTORED: u64 = 3;
+
 pub fn flag_fits(flag: u64) -> bool
     ensures { λ r. ⌜ r ≡ listed-flag flag ⌝ }
 {
@@ -55,19 +64,20 @@ pub fn class_of(who: Deliverer) -> Class
 pub fn deliverer_fits(kind: u64, number: u64) -> bool
     ensures { λ r. ⌜ r ≡ listed-deliverer kind number ⌝ }
 {
-    (kind <= 2) | ((kind == 3) & (number <= 2))
+    let listed = class_fits(number);
+    (kind <= RELAY) | ((kind == RESTORED) & listed)
 }
 
 pub fn deliverer_of(kind: u64, number: u64) -> Deliverer
     ensures { λ r. ⌜ r ≡ deliverer-with kind number ⌝ }
 {
-    if kind == 0 {
+    if kind == FEEDER {
         return Deliverer::Feeder(number);
     }
-    if kind == 1 {
+    if kind == PEER {
         return Deliverer::Peer(number);
     }
-    if kind == 2 {
+    if kind == RELAY {
         return Deliverer::Relay;
     }
     Deliverer::Restored(class_at(number))

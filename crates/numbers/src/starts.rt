@@ -1,6 +1,7 @@
 // Where each part of the words starts, and how many words it has, under settings that are in bounds.
 use crate::bounds;
 use crate::codes;
+use crate::layout;
 use crate::spans;
 use model::Class;
 use model::Settings;
@@ -26,7 +27,7 @@ pub fn needed(s: Settings) -> usize
     requires { ⌜ settings-fit s ≡ true ⌝ }
     ensures { λ n. ⌜ n ≡ words-needed s ⌝ }
 {
-    bounds::words_needed(s) as usize
+    bounds::words_in_bounds(s) as usize
 }
 
 // The words of a place in the book: its kind, number, entries and how many pairs it has, then E pairs of two words each.
@@ -34,7 +35,7 @@ pub fn place_width(b: Shares) -> usize
     requires { ⌜ b .pairs ≤ 512 ⌝ }
     ensures { λ n. ⌜ (n ≡ place-words (b .pairs)) × (n ≤ 1_028) ⌝ }
 {
-    2 * (b.pairs as usize) + 4
+    2 * (b.pairs as usize) + layout::PLACE_HEAD
 }
 
 // Where place i of a class starts in the class's words, after the four of totals.
@@ -43,7 +44,7 @@ pub fn place_start(b: Shares, i: usize) -> usize
     ensures { λ a. ⌜ (a ≡ 4 + i * place-words (b .pairs)) × (a ≤ 65_796) ⌝ }
 {
     let place = place_width(b);
-    4 + i * place
+    layout::CLASS_HEAD + i * place
 }
 
 // The words of a class in the book: four of totals, and P places.
@@ -52,7 +53,7 @@ pub fn class_width(b: Shares) -> usize
     ensures { λ n. ⌜ (n ≡ class-words b) × (n ≤ 65_796) ⌝ }
 {
     let place = place_width(b);
-    4 + (b.places as usize) * place
+    layout::CLASS_HEAD + (b.places as usize) * place
 }
 
 // Where a class starts.
@@ -62,7 +63,7 @@ pub fn class_start(s: Settings, class: Class) -> usize
 {
     let width = class_width(s.shares);
     let number = codes::class_number(class) as usize;
-    20 + number * width
+    layout::FRONT + number * width
 }
 
 // The words of one class's ring.
@@ -71,7 +72,7 @@ pub fn ring_width(u: Usable) -> usize
     ensures { λ n. ⌜ (n ≡ ring-words u) × (n ≤ 263_168) ⌝ }
 {
     let ring = spans::ring_of(u) as usize;
-    ring * ((u.slots as usize) + 4)
+    ring * ((u.slots as usize) + layout::GENERATION_HEAD)
 }
 
 // The words of a register: its own, and three rings.
@@ -80,7 +81,7 @@ pub fn register_width(u: Usable) -> usize
     ensures { λ n. ⌜ (n ≡ register-words u) × (n ≤ 789_528) ⌝ }
 {
     let ring = ring_width(u);
-    24 + 3 * ring
+    layout::HEADING + 3 * ring
 }
 
 // Where a register starts: after the front, the book, and the registers before it.
@@ -89,7 +90,7 @@ pub fn register_start(s: Settings, register: usize) -> usize
     ensures { λ a. ⌜ (a ≡ register-from s register) × (a + register-words (usable-at s register) ≤ words-needed s) ⌝ }
 {
     let width = class_width(s.shares);
-    let mut a = 20 + 3 * width;
+    let mut a = layout::FRONT + 3 * width;
     let mut i = 0;
     while i < register {
         let u = bounds::usable_in(s, i);

@@ -1,4 +1,5 @@
 // The units that the limits of the share book count: one for each entry, and some for each place.
+use crate::codes;
 use model::Class;
 use model::Shares;
 ghost use mathlib.Core.Path.{_≡_};
@@ -11,7 +12,7 @@ pub fn units_of(shares: Shares, class: Class, kind: u64) -> u64
     requires { ⌜ (shares .feeder ≤ 4_096) × (shares .peer ≤ 4_096) ⌝ }
     ensures { λ r. ⌜ (r ≤ 4_096) × ((number : ℕ) → r ≡ place-units shares (read-who class kind number)) ⌝ }
 {
-    if kind == 3 {
+    if kind == codes::RESTORED {
         return shares.peer;
     }
     match class {

@@ -121,7 +121,7 @@ fn write_register(run: &mut [u64], s: Settings, starts: &[u64], r: usize)
     let a = numbers::starts::register_start(s, r);
     let u = numbers::bounds::usable_in(s, r);
     let start = numbers::codes::start_of(starts[2 * r], starts[2 * r + 1]);
-    write_heading(&mut run[a..a + 24], u, start);
+    write_heading(&mut run[a..a + numbers::layout::HEADING], u, start);
 }
 
 // The own words of every register.
@@ -143,6 +143,6 @@ pub fn open(run: &mut [u64], s: Settings, limits: Limits, starts: &[u64])
     ensures { λ _. ⌜ now (run .exit) ≡ state-form s .enc (opened-with s limits (now (starts .entry))) ⌝ }
 {
     runs::clear_words(run);
-    write_front(&mut run[0..20], s, limits);
+    write_front(&mut run[0..numbers::layout::FRONT], s, limits);
     write_registers(run, s, starts);
 }

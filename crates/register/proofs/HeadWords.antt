@@ -13,7 +13,7 @@ use Rattle.model.specs.declared.Answer.the-variants.{NoFloor, FloorAt, SweptTo,
 use Rattle.model.specs.declared.Usable.{Usable}
 use Rattle.model.specs.Numbers.{raise, under}
 use Rattle.model.specs.Register.{Register, with-floor, swept-to, published, begin}
-use Rattle.model.specs.RegisterWords.{flag-word, floor-flag, floor-word, register-form}
+use Rattle.model.specs.RegisterWords.{floor-flag, floor-word, register-form}
 use Rattle.model.specs.Calls.{floor-answer}
 use Rattle.model.proofs.RegisterWords.{flag-read}
 use Rattle.generation.specs.declared.Dropped.{Dropped}
@@ -35,23 +35,15 @@ unfolding under
 under-words stamp none = refl
 under-words stamp (some f) = refl
 
-floor-stays : (stamp : ℕ) (f : Option ℕ) → (eqb (floor-flag f) 1 && leb stamp (floor-word f)) ≡ true → f ≡ raise f stamp
-unfolding raise
+floor-stays : (stamp : ℕ) (f : Option ℕ) → under stamp f ≡ true → f ≡ raise f stamp
+unfolding under raise
 floor-stays stamp none t = no (cc)
 floor-stays stamp (some f) t = let h = leb-true stamp f t in let e : f ≡ max f stamp = omega arith in ap some e
 
-floor-moves : (stamp : ℕ) (f : Option ℕ) → (eqb (floor-flag f) 1 && leb stamp (floor-word f)) ≡ false → some stamp ≡ raise f stamp
-unfolding raise
+floor-moves : (stamp : ℕ) (f : Option ℕ) → under stamp f ≡ false → some stamp ≡ raise f stamp
+unfolding under raise
 floor-moves stamp none t = refl
 floor-moves stamp (some f) t = let h = leb-false stamp f t in let e : stamp ≡ max f stamp = omega arith in ap some e
-
-flag-on : (b : Bool) → flag-word b ≡ 1 → b ≡ true
-flag-on true e = refl
-flag-on false e = no e
-
-flag-off : (b : Bool) → (flag-word b ≡ 1 → ⊥) → b ≡ false
-flag-off true n = absurd (n refl)
-flag-off false n = refl
 
 -- ---- readers
 pub pending-reads : (u : Usable) (ws : List ℕ) → RegisterReads u (λ reg. reg .pending) ws (eqb (getD ws 10 0) 1)
@@ -80,24 +72,19 @@ no-floor-reads u ws n = record {
   says = λ reg ok is. floor-missing (reg .floor) (λ e. n (ap (λ (l : List ℕ). getD l 8 0) is ∙ e));
 }
 
--- ---- the floor raised
-module _ (stamp : ℕ) (ws : List ℕ) (u : Usable) where
-  test-at : (reg : Register) → ws ≡ register-form u .enc reg
-      → (eqb (getD ws 8 0) 1 && leb stamp (getD ws 9 0)) ≡ (eqb (floor-flag (reg .floor)) 1 && leb stamp (floor-word (reg .floor)))
-  test-at reg is = ap (λ (l : List ℕ). eqb (getD l 8 0) 1 && leb stamp (getD l 9 0)) is
-
-  pub raise-stays : (eqb (getD ws 8 0) 1 && leb stamp (getD ws 9 0)) ≡ true → RegisterTurns u (raised stamp) silent ws ws (tt {0})
+-- ---- the floor raised, where it was read whether the stamp is under it
+module _ (stamp : ℕ) (ws : List ℕ) (u : Usable) (low : Bool) (reads : RegisterReads u (λ reg. under stamp (reg .floor)) ws low) where
+  pub raise-stays : low ≡ true → RegisterTurns u (raised stamp) silent ws ws (tt {0})
   raise-stays t = record {
     does = λ reg ok is.
-        (is ∙ ap (λ (f : Option ℕ). register-form u .enc (with-floor f reg)) (floor-stays stamp (reg .floor) (sym (test-at reg is) ∙ t)), refl);
+        (is ∙ ap (λ (f : Option ℕ). register-form u .enc (with-floor f reg)) (floor-stays stamp (reg .floor) (sym (reads .says reg ok is) ∙ t)), refl);
   }
 
-  pub raise-moves : (eqb (getD ws 8 0) 1 && leb stamp (getD ws 9 0)) ≡ false
-      → RegisterTurns u (raised stamp) silent ws (set (set ws 8 1) 9 stamp) (tt {0})
+  pub raise-moves : low ≡ false → RegisterTurns u (raised stamp) silent ws (set (set ws 8 1) 9 stamp) (tt {0})
   raise-moves t = record {
     does = λ reg ok is. (
       ap (λ (l : List ℕ). set (set l 8 1) 9 stamp) is
-          ∙ ap (λ (f : Option ℕ). register-form u .enc (with-floor f reg)) (floor-moves stamp (reg .floor) (sym (test-at reg is) ∙ t)),
+          ∙ ap (λ (f : Option ℕ). register-form u .enc (with-floor f reg)) (floor-moves stamp (reg .floor) (sym (reads .says reg ok is) ∙ t)),
       refl,
     );
   }
@@ -120,18 +107,20 @@ begin-idle number reg e =
     sym (ap (λ (b : Bool).
     cond b (record { swept = reg .swept; floor = raise (reg .floor) number; pending = false; spare = reg .spare; rings = reg .rings }) reg) e)
 
-pub begin-already : (number : ℕ) (ws : List ℕ) (u : Usable) → (getD ws 10 0 ≡ 1 → ⊥) → RegisterTurns u (begin number) begin-says ws ws Already
-begin-already number ws u n = record {
-  does = λ reg ok is.
-      let e = flag-off (reg .pending) (λ z. n (ap (λ (l : List ℕ). getD l 10 0) is ∙ z)) in
-      (is ∙ ap (register-form u .enc) (begin-idle number reg e), ap (λ (b : Bool). cond b Begun Already) (sym e));
-}
+-- where it was read whether the register is pending
+module _ (number : ℕ) (ws : List ℕ) (u : Usable) (waits : Bool) (reads : RegisterReads u (λ reg. reg .pending) ws waits) where
+  pub begin-already : waits ≡ false → RegisterTurns u (begin number) begin-says ws ws Already
+  begin-already n = record {
+    does = λ reg ok is.
+        let e = sym (reads .says reg ok is) ∙ n in
+        (is ∙ ap (register-form u .enc) (begin-idle number reg e), ap (λ (b : Bool). cond b Begun Already) (sym e));
+  }
 
-pub begin-begun : (number : ℕ) (ws mid : List ℕ) (u : Usable) → getD ws 10 0 ≡ 1
-    → RegisterTurns u (raised number) silent ws mid (tt {0}) → RegisterTurns u (begin number) begin-says ws (set mid 10 0) Begun
-unfolding begin
-begin-begun number ws mid u h t = record {
-  does = λ reg ok is.
-      let e = flag-on (reg .pending) (sym (ap (λ (l : List ℕ). getD l 10 0) is) ∙ h) in
-      (rw e (ap (λ (l : List ℕ). set l 10 0) (t .does reg ok is .0)), rw e);
-}
+  pub begin-begun : (mid : List ℕ) → waits ≡ true → RegisterTurns u (raised number) silent ws mid (tt {0})
+      → RegisterTurns u (begin number) begin-says ws (set mid 10 0) Begun
+  unfolding begin
+  begin-begun mid h t = record {
+    does = λ reg ok is.
+        let e = sym (reads .says reg ok is) ∙ h in
+        (rw e (ap (λ (l : List ℕ). set l 10 0) (t .does reg ok is .0)), rw e);
+  }

@@ -1,12 +1,11 @@
 // What restore and resume ask of a register besides strikes: a generation that failed is forgotten, and the floor is raised,
 // or forgotten.
 use crate::heading;
-use crate::heading::FLOOR;
-use crate::heading::HAS_FLOOR;
 use crate::places;
 use model::Bucket;
 use model::Class;
 use model::Usable;
+use numbers::layout;
 ghost use Prim.Native.Nat.{_≤_};
 ghost use lib.ListN.{length};
 ghost use Rattle.model.specs.declared.Usable.{Usable as Settings};
@@ -31,8 +30,8 @@ pub fn forget_floor(part: &mut [u64])
     requires { ⌜ 24 ≤ length (now part) ⌝ }
     ensures { λ _. ⌜ ((u : Settings) → RegisterTurns u floor-gone silent (now (part .entry)) (now (part .exit)) (tt {0})) ⌝ }
 {
-    part[HAS_FLOOR] = 0;
-    part[FLOOR] = 0;
+    part[layout::HAS_FLOOR] = 0;
+    part[layout::FLOOR] = 0;
 }
 
 // Raises the floor to a dump's: 0 is none, and otherwise the floor and 1.

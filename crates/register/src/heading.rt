@@ -4,33 +4,23 @@ use model::Answer;
 use model::Bucket;
 use model::Judged;
 use model::Usable;
+use numbers::layout;
 use numbers::spans;
 ghost use Prim.Native.Nat.{_≤_};
 ghost use lib.ListN.{length};
 ghost use Rattle.model.specs.declared.Usable.{Usable as Settings};
+ghost use Rattle.model.specs.Numbers.{under};
 ghost use Rattle.model.specs.Register.{swept-to, published, begin as begun};
 ghost use Rattle.model.specs.Calls.{floor-answer};
 ghost use Rattle.register.specs.Rules.{raised, raised-with, begin-says, swept-answer, silent};
 ghost use Rattle.register.specs.Words.{RegisterReads, RegisterTurns};
-
-// Its words after the six kept settings: the bucket up to which it is swept, that in milliseconds, whether there is a floor,
-// the floor, and whether it is pending.
-pub const SWEPT: usize = 6;
-
-pub const PUBLISHED: usize = 7;
-
-pub const HAS_FLOOR: usize = 8;
-
-pub const FLOOR: usize = 9;
-
-pub const PENDING: usize = 10;
 
 // Whether the register waits for the host's number.
 pub fn is_pending(part: &[u64]) -> bool
     requires { ⌜ 24 ≤ length (now part) ⌝ }
     ensures { λ r. ⌜ ((u : Settings) → RegisterReads u (λ reg. reg .pending) (now (part .entry)) r) ⌝ }
 {
-    part[PENDING] == 1
+    part[layout::PENDING] == 1
 }
 
 // The newest stamp that it may have forgotten, if any.
@@ -38,8 +28,8 @@ pub fn floor(part: &[u64]) -> Answer
     requires { ⌜ 24 ≤ length (now part) ⌝ }
     ensures { λ r. ⌜ ((u : Settings) → RegisterReads u (λ reg. floor-answer (reg .floor)) (now (part .entry)) r) ⌝ }
 {
-    if part[HAS_FLOOR] == 1 {
-        return Answer::FloorAt(part[FLOOR]);
+    if part[layout::HAS_FLOOR] == 1 {
+        return Answer::FloorAt(part[layout::FLOOR]);
     }
     Answer::NoFloor
 }
@@ -49,7 +39,7 @@ pub fn swept(part: &[u64]) -> Answer
     requires { ⌜ 24 ≤ length (now part) ⌝ }
     ensures { λ r. ⌜ ((u : Settings) → RegisterReads u (swept-answer u) (now (part .entry)) r) ⌝ }
 {
-    Answer::SweptTo(part[SWEPT], part[PUBLISHED])
+    Answer::SweptTo(part[layout::SWEPT], part[layout::PUBLISHED])
 }
 
 // The sweep that it publishes to the share book, in milliseconds.
@@ -57,7 +47,15 @@ pub fn published_sweep(part: &[u64]) -> Judged
     requires { ⌜ 24 ≤ length (now part) ⌝ }
     ensures { λ r. ⌜ ((u : Settings) → RegisterReads u (λ reg. published u (reg .swept)) (now (part .entry)) (r .0)) ⌝ }
 {
-    Judged(part[PUBLISHED])
+    Judged(part[layout::PUBLISHED])
+}
+
+// Whether a stamp is at or below the floor.
+pub fn is_under(part: &[u64], stamp: u64) -> bool
+    requires { ⌜ 24 ≤ length (now part) ⌝ }
+    ensures { λ r. ⌜ ((u : Settings) → RegisterReads u (λ reg. under stamp (reg .floor)) (now (part .entry)) r) ⌝ }
+{
+    (part[layout::HAS_FLOOR] == 1) & (stamp <= part[layout::FLOOR])
 }
 
 // Raises the floor: it never falls, and one that is absent becomes the stamp.
@@ -65,11 +63,11 @@ pub fn raise_floor(part: &mut [u64], stamp: u64)
     requires { ⌜ 24 ≤ length (now part) ⌝ }
     ensures { λ r. ⌜ ((u : Settings) → RegisterTurns u (raised stamp) silent (now (part .entry)) (now (part .exit)) (tt {0})) ⌝ }
 {
-    if (part[HAS_FLOOR] == 1) & (stamp <= part[FLOOR]) {
+    if is_under(part, stamp) {
         return;
     }
-    part[HAS_FLOOR] = 1;
-    part[FLOOR] = stamp;
+    part[layout::HAS_FLOOR] = 1;
+    part[layout::FLOOR] = stamp;
 }
 
 // The same by what a drop forgot.
@@ -89,8 +87,8 @@ pub fn set_swept(part: &mut [u64], u: Usable, swept: Bucket)
     ensures { λ r. ⌜ RegisterTurns u (swept-to (swept .0)) silent (now (part .entry)) (now (part .exit)) (tt {0}) ⌝ }
 {
     let published = spans::published(u, swept);
-    part[SWEPT] = swept.0;
-    part[PUBLISHED] = published.0;
+    part[layout::SWEPT] = swept.0;
+    part[layout::PUBLISHED] = published.0;
 }
 
 // Begins: a pending register's floor is raised to the host's number, and it is pending no longer.
@@ -98,10 +96,10 @@ pub fn begin(part: &mut [u64], number: u64) -> Answer
     requires { ⌜ 24 ≤ length (now part) ⌝ }
     ensures { λ r. ⌜ ((u : Settings) → RegisterTurns u (begun number) begin-says (now (part .entry)) (now (part .exit)) r) ⌝ }
 {
-    if part[PENDING] != 1 {
+    if !is_pending(part) {
         return Answer::Already;
     }
     raise_floor(part, number);
-    part[PENDING] = 0;
+    part[layout::PENDING] = 0;
     Answer::Begun
 }

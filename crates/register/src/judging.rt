@@ -1,7 +1,5 @@
 // Judge: what a ticket is, with nothing remembered.
 use crate::heading;
-use crate::heading::FLOOR;
-use crate::heading::HAS_FLOOR;
 use crate::rings;
 use crate::sweeping;
 use model::Deliverer;
@@ -11,12 +9,8 @@ use model::Verdict;
 use numbers::spans;
 ghost use mathlib.Core.Path.{_≡_};
 ghost use mathlib.Core.Bool.{cond};
-ghost use Prim.Native.Nat.{_≤_};
-ghost use lib.ListN.{length};
-ghost use Rattle.model.specs.declared.Usable.{Usable as Settings};
 ghost use Rattle.model.specs.declared.Verdict.the-variants.{Late, Ahead};
 ghost use Rattle.model.specs.Judge.{verdict as verdict-on, ahead-for as turned-ahead};
-ghost use Rattle.model.specs.Numbers.{under};
 ghost use Rattle.register.specs.Rules.{asked-by, judged-register, judge-says, batch-register, batch-says};
 ghost use Rattle.register.specs.Words.{RegisterWords, RegisterReads, RegisterTurns};
 
@@ -29,14 +23,6 @@ pub struct Ask {
     pub who: Deliverer,
 }
 
-// Whether a stamp is at or below the floor.
-fn is_under(part: &[u64], stamp: u64) -> bool
-    requires { ⌜ 24 ≤ length (now part) ⌝ }
-    ensures { λ r. ⌜ ((u : Settings) → RegisterReads u (λ reg. under stamp (reg .floor)) (now (part .entry)) r) ⌝ }
-{
-    (part[HAS_FLOOR] == 1) & (stamp <= part[FLOOR])
-}
-
 // Duplicate first, however old: a ticket that is held is never Late.
 fn verdict(part: &[u64], u: Usable, ask: Ask) -> Verdict
     requires { ⌜ RegisterWords u (now part) ⌝ }
@@ -44,7 +30,7 @@ fn verdict(part: &[u64], u: Usable, ask: Ask) -> Verdict
 {
     let bucket = spans::bucket_of(u, ask.stamp);
     let held = rings::holds_any_class(part, u, bucket, spans::as_read(ask.fp));
-    let under = is_under(part, ask.stamp);
+    let under = heading::is_under(part, ask.stamp);
     let who = ask.who;
     let within = spans::in_window(spans::window_for(u, who), ask.stamp, ask.now);
     if held {

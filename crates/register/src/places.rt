@@ -3,6 +3,7 @@ use generation::Generation;
 use model::Class;
 use model::Usable;
 use numbers::codes;
+use numbers::layout;
 use numbers::spans;
 ghost use mathlib.Core.Path.{_≡_};
 ghost use mathlib.Core.Bool.{true};
@@ -41,7 +42,7 @@ pub fn place_in(u: Usable, rings: Rings, class: Class) -> Place
     ensures { λ r. ⌜ RingAt u class r ⌝ }
 {
     let number = codes::class_number(class) as usize;
-    let start = 24 + number * rings.width;
+    let start = layout::HEADING + number * rings.width;
     Place {
         slots: u.slots as usize,
         ring: rings.ring,

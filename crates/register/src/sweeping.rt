@@ -1,6 +1,5 @@
 // Sweep: every generation that the clock has passed is dropped, and the newest stamp that went raises the floor.
 use crate::heading;
-use crate::heading::SWEPT;
 use crate::places;
 use crate::places::Rings;
 use crate::rings;
@@ -8,6 +7,7 @@ use model::Bucket;
 use model::Class;
 use model::Judged;
 use model::Usable;
+use numbers::layout;
 use numbers::spans;
 ghost use mathlib.Core.Path.{_≡_};
 ghost use Prim.Native.Nat.{_-_, _<_, max};
@@ -47,7 +47,7 @@ pub fn sweep(part: &mut [u64], u: Usable, reading: Judged)
         return;
     }
     let through = spans::through_of(u, reading);
-    let swept = Bucket(part[SWEPT]);
+    let swept = Bucket(part[layout::SWEPT]);
     // Swept up to there already, and that is published.
     if through.0 == swept.0 {
         return;

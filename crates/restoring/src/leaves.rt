@@ -7,6 +7,7 @@ use model::Deliverer;
 use model::Room;
 use model::Settings;
 use model::Usable;
+use numbers::layout;
 use numbers::spans;
 use numbers::starts;
 use numbers::starts::Place;
@@ -95,8 +96,8 @@ pub fn draw(run: &mut [u64], s: Settings, r: usize, h: Head) -> bool
     requires { ⌜ (RunWords s (now run) × (r < s .registers)) × Suits s r h ⌝ }
     ensures { λ v. ⌜ RunWords s (now (run .exit)) × Acts s r (λ reg k. reg) (λ reg k. drawn-if (s .shares) h k) (λ reg k. may-draw (s .shares) h k) (now (run .entry)) (now (run .exit)) v ⌝ }
 {
-    let limits = front::kept_limits(&run[0..20]);
-    let closed = front::is_closed(&run[0..20]);
+    let limits = front::kept_limits(&run[0..layout::FRONT]);
+    let closed = front::is_closed(&run[0..layout::FRONT]);
     let class = h.class;
     let second = h.second;
     let a = starts::class_start(s, class);

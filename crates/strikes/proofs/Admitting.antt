@@ -1,15 +1,16 @@
 -- What the first refusals mean for each kind of call, and what a call that passes them may use.
-use Prim.Native.Nat.{ℕ, _<_, _≤_}
+use Prim.Native.Nat.{ℕ, _<_}
 use native.Mathlib.Omega.{arith}
-use mathlib.Core.Path.{_≡_, refl, sym, _∙_}
+use mathlib.Core.Path.{_≡_, refl, sym, ap, _∙_}
 use mathlib.Core.Bool.{Bool, true, false, not, _&&_, and-true, and-false}
 use mathlib.Core.List.{List, [], _∷_}
 use lib.Dec.{leb, eqb}
 use lib.ListN.{length}
-use borrow.Author.Tests.{leb-false, ltb-false, not-false, eqb-true, le-leb, lt-leb}
+use borrow.Author.Tests.{leb-false, ltb-false, not-false, eqb-true}
 use Rattle.runs.proofs.Cases.{by-test, both-true}
+use Rattle.model.specs.declared.Settings.{Settings}
 use Rattle.model.specs.Settings.{settings-of, settings-fit}
-use Rattle.model.specs.Calls.{Deed, Call, On, Expire, SetLimits, Close, HeldBy, ClassTotals, Refusal, refusal, first-met, settings-words-fit, deed-fits, codes-fit, unfit, is-open, too-short, sound, unsound, no-such-register, Late, late-deed, late, refused, register-at, held-in}
+use Rattle.model.specs.Calls.{Deed, Call, On, Expire, SetLimits, Close, HeldBy, ClassTotals, Floor, Refusal, refusal, first-met, settings-words-fit, deed-fits, codes-fit, unfit, is-open, too-short, sound, unsound, no-such-register, Late, late-deed, late, refused, register-at, held-in}
 use Rattle.vet.specs.Vetted.{vetted}
 use Rattle.strikes.specs.Admitted.{vets, admits}
 use Rattle.strikes.proofs.Through.{Entered, entered}
@@ -149,10 +150,16 @@ module _ (st ws : List ℕ) where
         let f = both-true (settings-words-fit st) codes (not-false _ (none-met z .0)) in
         eqb-true (length st) 29 (both-true (eqb (length st) 29) (settings-fit (settings-of st)) (f .0) .0)
 
-    pub no-register : n ≡ 0 → settings-of st .registers ≤ r → 4 ≡ admits st ws codes r
-    unfolding admits first-met
-    no-register z h = let p = none-met z in rw (p .0, p .1, p .2, le-leb _ _ h)
+    -- where it was tested whether there is such a register
+    module _ (s : Settings) (same : s ≡ settings-of st) (none-such : Bool) (told : (deed : Deed) → none-such ≡ no-such-register s (On r deed)) where
+      tested : none-such ≡ leb (settings-of st .registers) r
+      unfolding no-such-register
+      tested = told Floor ∙ ap (λ (x : Settings). leb (x .registers) r) same
 
-    pub all-passed : n ≡ 0 → r < settings-of st .registers → 0 ≡ admits st ws codes r
-    unfolding admits first-met
-    all-passed z h = let p = none-met z in rw (p .0, p .1, p .2, lt-leb _ _ h)
+      pub no-register : n ≡ 0 → none-such ≡ true → 4 ≡ admits st ws codes r
+      unfolding admits first-met
+      no-register z h = let p = none-met z in rw (p .0, p .1, p .2, sym tested ∙ h)
+
+      pub all-passed : n ≡ 0 → none-such ≡ false → 0 ≡ admits st ws codes r
+      unfolding admits first-met
+      all-passed z h = let p = none-met z in rw (p .0, p .1, p .2, sym tested ∙ h)

@@ -8,15 +8,14 @@ use model::Shares;
 use model::Usable;
 use numbers::bounds;
 use numbers::codes;
+use numbers::layout;
 use numbers::starts;
 use numbers::starts::Place;
 use register::Ask;
 ghost use mathlib.Core.Path.{_≡_};
-ghost use mathlib.Core.Bool.{true, _&&_};
+ghost use mathlib.Core.Bool.{true};
 ghost use Prim.Native.Nat.{_+_, _<_};
 ghost use Rattle.model.specs.Settings.{settings-of};
-ghost use Rattle.model.specs.Class.{deliverer-fits};
-ghost use Rattle.model.specs.Codes.{flag-fits};
 ghost use Rattle.model.specs.Calls.{settings-words-fit, ask-of as ask-read, judged, judged-batch, taken, taken-batch, On, Open, Close, Expire, SetLimits, HeldBy, ClassTotals, Begin, Sweep, ContainsHash, DumpTo, Restore, Resume, Floor, Pending, SweptBucket, yes-no, reply};
 ghost use Rattle.numbers.specs.Places.{RegisterAt};
 ghost use Rattle.register.specs.Rules.{asked-by};
@@ -39,15 +38,6 @@ fn place_of(settings: &[u64], register: u64) -> Place
 {
     let s = bounds::settings_of(settings);
     starts::place_of(s, register as usize)
-}
-
-// The codes that a ticket brings are listed.
-fn ticket_codes(flag: u64, kind: u64, number: u64) -> bool
-    ensures { λ r. ⌜ r ≡ (flag-fits flag && deliverer-fits kind number) ⌝ }
-{
-    let judging = codes::flag_fits(flag);
-    let who = codes::deliverer_fits(kind, number);
-    judging & who
 }
 
 // A ticket as it is asked about.
@@ -83,7 +73,7 @@ fn admitted(settings: &[u64], words: &[u64], codes: bool, register: u64) -> u64
         return n;
     }
     let s = bounds::settings_of(settings);
-    if s.registers <= register {
+    if vet::no_such_register(s, register) {
         return 4;
     }
     0
@@ -103,7 +93,7 @@ pub fn judge(
 ) -> Answer
     ensures { λ a. ⌜ Told (now (settings .entry)) (now (words .entry)) (asking judged register fp stamp reading flag kind number) a (now (words .exit)) ⌝ }
 {
-    let listed = ticket_codes(flag, kind, number);
+    let listed = vet::ticket_fits(flag, kind, number);
     let n = admitted(settings, words, listed, register);
     if n != 0 {
         return Answer::Refused(n);
@@ -130,7 +120,7 @@ pub fn judge_batch(
 ) -> Answer
     ensures { λ a. ⌜ Told (now (settings .entry)) (now (words .entry)) (asking judged-batch register fp stamp reading flag kind number) a (now (words .exit)) ⌝ }
 {
-    let listed = ticket_codes(flag, kind, number);
+    let listed = vet::ticket_fits(flag, kind, number);
     let n = admitted(settings, words, listed, register);
     if n != 0 {
         return Answer::Refused(n);
@@ -251,7 +241,7 @@ pub fn take(
 ) -> Answer
     ensures { λ a. ⌜ Told (now (settings .entry)) (now (words .entry)) (asking taken register fp stamp reading flag kind number) a (now (words .exit)) ⌝ }
 {
-    let listed = ticket_codes(flag, kind, number);
+    let listed = vet::ticket_fits(flag, kind, number);
     let n = admitted(settings, words, listed, register);
     if n != 0 {
         return Answer::Refused(n);
@@ -278,7 +268,7 @@ pub fn take_batch(
 ) -> Answer
     ensures { λ a. ⌜ Told (now (settings .entry)) (now (words .entry)) (asking taken-batch register fp stamp reading flag kind number) a (now (words .exit)) ⌝ }
 {
-    let listed = ticket_codes(flag, kind, number);
+    let listed = vet::ticket_fits(flag, kind, number);
     let n = admitted(settings, words, listed, register);
     if n != 0 {
         return Answer::Refused(n);
@@ -299,7 +289,7 @@ pub fn close(settings: &[u64], words: &mut [u64]) -> Answer
     if n != 0 {
         return Answer::Refused(n);
     }
-    book::front::close(&mut words[0..20]);
+    book::front::close(&mut words[0..layout::FRONT]);
     Answer::Done
 }
 
@@ -327,7 +317,7 @@ pub fn set_limits(settings: &[u64], words: &mut [u64], limits: &[u64]) -> Answer
         return Answer::Refused(n);
     }
     let wanted = bounds::limits_of(limits);
-    book::front::set_limits(&mut words[0..20], wanted);
+    book::front::set_limits(&mut words[0..layout::FRONT], wanted);
     Answer::Done
 }
 

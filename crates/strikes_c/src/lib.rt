@@ -3,7 +3,6 @@
 mod sent;
 
 use numbers::bounds;
-use numbers::starts;
 use sent::send;
 ghost use mathlib.Core.Path.{_≡_};
 ghost use mathlib.Core.List.{[], _∷_};
@@ -17,11 +16,14 @@ pub extern "C" fn strikes_words_needed(settings: &[u64], needed: &mut u64) -> u6
     ensures { λ n. ⌜ n ≡ needed-status (now (settings .entry)) ⌝ }
     ensures { λ _. ⌜ now (needed .exit) ≡ needed-out (now (settings .entry)) (now (needed .entry)) ⌝ }
 {
-    if !vet::settings_fit(settings) {
+    if settings.len() != bounds::SETTINGS {
         return 1;
     }
-    let s = bounds::settings_of(settings);
-    *needed = starts::needed(s) as u64;
+    let n = bounds::words_needed(bounds::settings_of(settings));
+    if n == 0 {
+        return 1;
+    }
+    *needed = n;
     0
 }
 

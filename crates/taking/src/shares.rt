@@ -9,6 +9,7 @@ use model::Second;
 use model::Settings;
 use model::Shares;
 use numbers::codes;
+use numbers::layout;
 use numbers::starts;
 ghost use mathlib.Core.Path.{_≡_};
 ghost use mathlib.Core.Bool.{true};
@@ -49,8 +50,8 @@ pub fn look_up(run: &[u64], s: Settings, ticket: Ticket) -> Share
     requires { ⌜ RunWords s (now run) ⌝ }
     ensures { λ r. ⌜ StateReads s (share-for s ticket) (now (run .entry)) r ⌝ }
 {
-    let limits = front::kept_limits(&run[0..20]);
-    let closed = front::is_closed(&run[0..20]);
+    let limits = front::kept_limits(&run[0..layout::FRONT]);
+    let closed = front::is_closed(&run[0..layout::FRONT]);
     let who = ticket.who;
     let second = ticket.second;
     let a = starts::class_start(s, codes::class_of(who));

@@ -1,10 +1,13 @@
-// Settings, limits and starts as a call hands them in, as words of any number.
+// What a call hands in: settings, limits and starts as words of any number, and the codes of a ticket.
 use model::Settings;
 use numbers::bounds;
 use numbers::codes;
 ghost use mathlib.Core.Path.{_≡_};
+ghost use mathlib.Core.Bool.{_&&_};
 ghost use Prim.Native.Nat.{_<_};
 ghost use lib.ListN.{length};
+ghost use Rattle.model.specs.Class.{deliverer-fits};
+ghost use Rattle.model.specs.Codes.{flag-fits};
 ghost use Rattle.model.specs.Calls.{settings-words-fit, limits-words-fit, start-fits-at as fits-at, starts-fit as starts-within};
 
 // There are 29 words, and each setting is in its bounds.
@@ -48,4 +51,13 @@ pub fn starts_fit(s: Settings, starts: &[u64]) -> bool
     let c = start_fits_at(s, starts, 2);
     let d = start_fits_at(s, starts, 3);
     a & (b & (c & d))
+}
+
+// The codes that a ticket brings are listed: the judging flag, and the kind and number of its deliverer.
+pub fn ticket_fits(flag: u64, kind: u64, number: u64) -> bool
+    ensures { λ r. ⌜ r ≡ (flag-fits flag && deliverer-fits kind number) ⌝ }
+{
+    let judging = codes::flag_fits(flag);
+    let who = codes::deliverer_fits(kind, number);
+    judging & who
 }

@@ -1,6 +1,6 @@
 // What may be refused before a call does anything: a function for each stage, in the order in which refusals are tried. Settings,
-// limits and starts (1) stand in `handed`, words sound (3) in `sound`, words enough (2) here. Each answers for whatever it is handed, none
-// writes, and nothing below this crate tests soundness again.
+// limits, starts and codes (1) stand in `handed`, words enough (2) here, words sound (3) in `sound`, the register number (4) here.
+// None writes, and nothing below this crate tests soundness again.
 use model::Settings;
 use numbers::bounds;
 use numbers::starts;
@@ -8,6 +8,7 @@ ghost use mathlib.Core.Path.{_≡_};
 ghost use mathlib.Core.Bool.{true};
 ghost use lib.Dec.{ltb};
 ghost use Rattle.model.specs.Settings.{settings-fit as settings-within, words-needed};
+ghost use Rattle.model.specs.Calls.{Deed, On, no-such-register as none-such};
 ghost use Rattle.vet.specs.Vetted.{vetted, vetted-opening};
 
 mod handed;
@@ -16,6 +17,7 @@ mod sound;
 pub use handed::limits_fit;
 pub use handed::settings_fit;
 pub use handed::starts_fit;
+pub use handed::ticket_fits;
 pub use sound::words_sound;
 
 // 0, or the first refusal that the settings and the words cause: 1, 2 or 3. A call tests its own codes before it.
@@ -54,4 +56,11 @@ pub fn too_short(s: Settings, words: usize) -> bool
 {
     let needed = starts::needed(s);
     words < needed
+}
+
+// The register number of a call on one register is not below R: 4.
+pub fn no_such_register(s: Settings, register: u64) -> bool
+    ensures { λ r. ⌜ ((deed : Deed) → r ≡ none-such s (On register deed)) ⌝ }
+{
+    s.registers <= register
 }

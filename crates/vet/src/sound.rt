@@ -5,6 +5,7 @@ use model::Limits;
 use model::Settings;
 use model::Usable;
 use numbers::bounds;
+use numbers::layout;
 use numbers::spans;
 use numbers::starts;
 ghost use mathlib.Core.Path.{_≡_};
@@ -23,17 +24,19 @@ fn front_sound(s: Settings, front: &[u64]) -> bool
     ensures { λ r. ⌜ r ≡ front-rule s (now (front .entry)) ⌝ }
 {
     let limits = bounds::limits_fit(Limits {
-        feeder: front[5],
-        feeders: front[6],
-        peer: front[7],
-        peers: front[8],
-        relay: front[9],
+        feeder: front[layout::FEEDER_LIMIT],
+        feeders: front[layout::FEEDERS_LIMIT],
+        peer: front[layout::PEER_LIMIT],
+        peers: front[layout::PEERS_LIMIT],
+        relay: front[layout::RELAY_LIMIT],
     });
     let b = s.shares;
-    let kept = (front[0] == s.registers)
-        & ((front[1] == b.places)
-            & ((front[2] == b.pairs) & ((front[3] == b.feeder) & (front[4] == b.peer))));
-    kept & (limits & (front[10] <= 1))
+    let kept = (front[layout::REGISTERS] == s.registers)
+        & ((front[layout::PLACES] == b.places)
+            & ((front[layout::PAIRS] == b.pairs)
+                & ((front[layout::FEEDER_UNITS] == b.feeder)
+                    & (front[layout::PEER_UNITS] == b.peer))));
+    kept & (limits & (front[layout::CLOSED] <= 1))
 }
 
 // A register's own words: it keeps the settings that are handed in, its published sweep is that of its swept bucket, its flags
@@ -42,14 +45,16 @@ fn heading_sound(u: Usable, heading: &[u64]) -> bool
     requires { ⌜ length (now heading) ≡ 24 ⌝ }
     ensures { λ r. ⌜ r ≡ heading-rule u (now (heading .entry)) ⌝ }
 {
-    let published = spans::published(u, Bucket(heading[6]));
-    let kept = (heading[0] == u.origin.behind)
-        & ((heading[1] == u.origin.ahead)
-            & ((heading[2] == u.copy.behind)
-                & ((heading[3] == u.copy.ahead)
-                    & ((heading[4] == u.bucket) & (heading[5] == u.slots)))));
-    let floor = (heading[8] <= 1) & ((heading[8] == 1) | (heading[9] == 0));
-    kept & ((heading[7] == published.0) & (floor & (heading[10] <= 1)))
+    let published = spans::published(u, Bucket(heading[layout::SWEPT]));
+    let kept = (heading[layout::ORIGIN_BEHIND] == u.origin.behind)
+        & ((heading[layout::ORIGIN_AHEAD] == u.origin.ahead)
+            & ((heading[layout::COPY_BEHIND] == u.copy.behind)
+                & ((heading[layout::COPY_AHEAD] == u.copy.ahead)
+                    & ((heading[layout::BUCKET] == u.bucket)
+                        & (heading[layout::SLOTS] == u.slots)))));
+    let floor = (heading[layout::HAS_FLOOR] <= 1)
+        & ((heading[layout::HAS_FLOOR] == 1) | (heading[layout::FLOOR] == 0));
+    kept & ((heading[layout::PUBLISHED] == published.0) & (floor & (heading[layout::PENDING] <= 1)))
 }
 
 // A register's three rings.
@@ -72,10 +77,10 @@ fn register_sound(u: Usable, register: &[u64]) -> bool
     requires { ⌜ (usable-fit u ≡ true) × (length (now register) ≡ register-width u) ⌝ }
     ensures { λ r. ⌜ r ≡ register-form u .test (now (register .entry)) ⌝ }
 {
-    if !heading_sound(u, &register[0..24]) {
+    if !heading_sound(u, &register[0..layout::HEADING]) {
         return false;
     }
-    rings_sound(u, &register[24..])
+    rings_sound(u, &register[layout::HEADING..])
 }
 
 // All registers, each of its own width, one after the other; the unused words behind them are free.
@@ -129,8 +134,8 @@ pub fn words_sound(s: Settings, words: &[u64]) -> bool
     ensures { λ r. ⌜ r ≡ sound s (now (words .entry)) ⌝ }
 {
     let n = starts::needed(s);
-    if !front_sound(s, &words[0..20]) {
+    if !front_sound(s, &words[0..layout::FRONT]) {
         return false;
     }
-    body_sound(s, &words[20..n])
+    body_sound(s, &words[layout::FRONT..n])
 }

@@ -3,6 +3,15 @@ use borrow.Author.Needs.{needs}
 use Rattle.audit.proofs.class_sound.Statement.{statement}
 use Rattle.audit.proofs.class_sound.Tie as tie
 
+shared-slice-read-entries : tie.Need-shared-slice-read-entries
+shared-slice-read-entries c = search needs
+
+shared-slice-read-holders : tie.Need-shared-slice-read-holders
+shared-slice-read-holders c = search needs
+
+shared-slice-read-units : tie.Need-shared-slice-read-units
+shared-slice-read-units c = search needs
+
 sub-places-sound : tie.Need-sub-places-sound
 sub-places-sound c = search needs
 
@@ -11,15 +20,6 @@ part-places-sound-start c = search needs
 
 part-places-sound-end : tie.Need-part-places-sound-end
 part-places-sound-end c = search needs
-
-shared-slice-read-places-sound : tie.Need-shared-slice-read-places-sound
-shared-slice-read-places-sound c = search needs
-
-shared-slice-read-places-sound-2 : tie.Need-shared-slice-read-places-sound-2
-shared-slice-read-places-sound-2 c = search needs
-
-shared-slice-read-places-sound-3 : tie.Need-shared-slice-read-places-sound-3
-shared-slice-read-places-sound-3 c = search needs
 
 places-sound-requires : tie.Need-places-sound-requires
 places-sound-requires c κs =
@@ -52,12 +52,12 @@ pub class-sound-spec : {M : Type 1} → statement M
 class-sound-spec =
     tie.close
     (tie.spec
+    shared-slice-read-entries
+    shared-slice-read-holders
+    shared-slice-read-units
     sub-places-sound
     part-places-sound-start
     part-places-sound-end
-    shared-slice-read-places-sound
-    shared-slice-read-places-sound-2
-    shared-slice-read-places-sound-3
     places-sound-requires
     sub-distinct
     part-distinct-start

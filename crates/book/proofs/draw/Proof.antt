@@ -1,69 +1,53 @@
 use Rattle.book.proofs.Finding.{units-small, if-none-le, draw-says, some-holder}
-use Rattle.book.specs.Pairs.{before}
 use Rattle.book.specs.Rules.{if-none}
 use Rattle.model.proofs.Places.{limit-fits}
-use Rattle.model.specs.Book.{entries, place-units}
+use Rattle.model.specs.Book.{place-units}
 use Rattle.model.specs.Class.{class-of}
-use Rattle.model.specs.Judge.{judge}
 use borrow.Author.Needs.{needs}
 use mathlib.Core.Path.{_≡_, ap, _∙_}
 use native.Mathlib.Omega.{arith}
 use Rattle.book.proofs.draw.Statement.{statement}
 use Rattle.book.proofs.draw.Tie as tie
 
--- src/lib.rt:87:9
 place-units-requires : tie.Need-place-units-requires
 place-units-requires c κs = search needs
 
--- src/lib.rt:88:9
 if-none-requires : tie.Need-if-none-requires
 if-none-requires c κs = search needs
 
--- src/lib.rt:89:9
 if-none-requires-2 : tie.Need-if-none-requires-2
 if-none-requires-2 c κs = search needs
 
--- src/lib.rt:90:43
 shared-slice-read-room : tie.Need-shared-slice-read-room
 shared-slice-read-room c = search needs
 
--- src/lib.rt:90:9
 room-requires : tie.Need-room-requires
 room-requires c κs = search needs
 
--- src/lib.rt:91:54
 add-judge : tie.Need-add-judge
 add-judge c = search needs
 
--- src/lib.rt:91:54
 add-judge-2 : tie.Need-add-judge-2
 add-judge-2 c = let s = c .before .before .before .before .before .before .before .args in let w = c .before .before .before .before .before .before .before .pre .0 .class in let p = c .before .before .before .before .before .place-units .ensures in let u = units-small (s .shares) (s .who) (w .feeder) (w .peer) in omega arith
 
--- src/lib.rt:91:80
 shared-slice-read-judge : tie.Need-shared-slice-read-judge
 shared-slice-read-judge c = search needs
 
--- src/lib.rt:91:80
 add-judge-3 : tie.Need-add-judge-3
 add-judge-3 c = let s = c .before .before .before .before .before .before .before .before .args in let p = c .before .before .before .before .before .if-none .ensures in let u = if-none-le (s .spot .entries) 1 in omega arith
 
--- src/lib.rt:91:97
 shared-slice-read-judge-2 : tie.Need-shared-slice-read-judge-2
 shared-slice-read-judge-2 c = search needs
 
--- src/lib.rt:91:97
 add-judge-4 : tie.Need-add-judge-4
 add-judge-4 c = search needs
 
--- src/lib.rt:91:97
 add-judge-5 : tie.Need-add-judge-5
 add-judge-5 c = let s = c .before .before .before .before .before .before .before .before .before .args in let w = c .before .before .before .before .before .before .before .before .before .pre .0 .class in let p = c .before .before .before .before .before .before .before .place-units .ensures in let q = c .before .before .before .before .before .if-none2 .ensures in let u = units-small (s .shares) (s .who) (w .feeder) (w .peer) in let v = if-none-le (s .spot .entries) (place-units (s .shares) (s .who)) in let z : _ ≡ if-none (s .spot .entries) (place-units (s .shares) (s .who)) = q ∙ ap (if-none (s .spot .entries)) p in omega arith
 
--- src/lib.rt:91:5
 judge-requires : tie.Need-judge-requires
 judge-requires c κs = let s = c .before .before .before .before .before .before .before .before .before .args in (some-holder (s .shares) (s .limits) (s .closed) (s .who) (s .part .now) (s .spot) (c .before .before .before .before .before .before .before .before .before .pre .0) _ (c .before .before .before .before .before .before .if-none .ensures), limit-fits (s .limits) (class-of (s .who)) (c .before .before .before .before .before .before .before .before .before .pre .1))
 
--- src/lib.rt:83:1
 returns : tie.Need-returns
 returns c = let s = c .before .before .before .before .before .before .before .before .before .before .args in draw-says (s .shares) (s .limits) (s .closed) (s .who) (s .part .now) (s .spot) (c .before .before .before .before .before .before .before .before .before .before .pre .0) _ _ _ _ _ (c .before .before .before .before .before .before .before .before .place-units .ensures) (c .before .before .before .before .before .before .before .if-none .ensures) (c .before .before .before .before .before .before .if-none2 .ensures) (c .before .before .before .before .room .ensures) (c .judge .ensures)
 

@@ -1,44 +1,32 @@
 use Rattle.book.proofs.Entering.{enters, take-asks}
-use Rattle.book.specs.Pairs.{before}
-use Rattle.book.specs.Rules.{if-none}
-use Rattle.model.specs.Book.{place-units}
 use borrow.Author.Needs.{needs}
 use Rattle.book.proofs.enter.Statement.{statement}
 use Rattle.book.proofs.enter.Tie as tie
 
--- src/lib.rt:121:9
 place-units-requires : tie.Need-place-units-requires
 place-units-requires c κs = search needs
 
--- src/lib.rt:122:9
 if-none-requires : tie.Need-if-none-requires
 if-none-requires c κs = search needs
 
--- src/lib.rt:123:9
 if-none-requires-2 : tie.Need-if-none-requires-2
 if-none-requires-2 c κs = search needs
 
--- src/lib.rt:124:9
 read-requires : tie.Need-read-requires
 read-requires c κs = search needs
 
--- src/lib.rt:125:9
 lent-to-take-requires : tie.Need-lent-to-take-requires
 lent-to-take-requires c κs = let s = c .before .before .before .before .before .before .args in take-asks (s .shares) (s .who) (s .part .now) (s .spot) (c .before .before .before .before .before .before .pre .found .class) _ _ _ _ (c .before .before .before .before .place-units .ensures) (c .before .before .before .if-none .ensures) (c .before .before .if-none2 .ensures) (c .read .ensures)
 
--- src/lib.rt:126:5
 enter-place-requires : tie.Need-enter-place-requires
 enter-place-requires c κs = search needs
 
--- src/lib.rt:127:5
 write-requires : tie.Need-write-requires
 write-requires c κs = search needs
 
--- src/lib.rt:117:1
 same-length : tie.Need-same-length
 same-length c = search needs
 
--- src/lib.rt:117:1
 returns : tie.Need-returns
 returns c = let s = c .before .before .before .before .before .before .before .before .before .before .before .before .before .before .before .args in rw (c .before .before .write .ensures) (enters (s .shares) (s .who) (s .part .now) (s .spot) (c .before .before .before .before .before .before .before .before .before .before .before .before .before .before .before .pre) _ _ _ _ _ _ (c .before .before .before .before .before .before .before .before .before .before .before .before .before .place-units .ensures) (c .before .before .before .before .before .before .before .before .before .before .before .before .if-none .ensures) (c .before .before .before .before .before .before .before .before .before .before .before .if-none2 .ensures) (c .before .before .before .before .before .before .before .before .before .read .ensures) (c .before .before .before .before .before .before .before .before .lent-to-take .ensures) (c .before .before .before .before .before .before .enter-place .ensures))
 

@@ -5,99 +5,75 @@ use borrow.Author.Needs.{needs}
 use Rattle.book.proofs.enter_place.Statement.{statement}
 use Rattle.book.proofs.enter_place.Tie as tie
 
--- src/lib.rt:128:9
 place-start-requires : tie.Need-place-start-requires
 place-start-requires c κs = let s = c .before .args in let r = c .before .pre in (r .found .class .pairs, place-few (s .shares) (s .who) (s .part .now) (s .spot) (r .found))
 
--- src/lib.rt:129:17
 place-width-requires : tie.Need-place-width-requires
 place-width-requires c κs = search needs
 
--- src/lib.rt:129:13
 add-e : tie.Need-add-e
 add-e c = search needs
 
--- src/lib.rt:131:21
 mul-open : tie.Need-mul-open
 mul-open c = search needs
 
--- src/lib.rt:131:21
 sub-open : tie.Need-sub-open
 sub-open c = search needs
 
--- src/lib.rt:131:21
 part-open-start : tie.Need-part-open-start
 part-open-start c = search needs
 
--- src/lib.rt:131:21
 part-open-end : tie.Need-part-open-end
 part-open-end c = search needs
 
--- src/lib.rt:131:9
 open-requires : tie.Need-open-requires
 open-requires c κs = search needs
 
--- src/lib.rt:132:9
 same-length : tie.Need-same-length
 same-length c = search needs
 
--- src/lib.rt:132:9
 returns : tie.Need-returns
 returns c = let s = c .before .before .before .before .before .before .before .before .before .args in enters-new (s .shares) (s .who) (s .part .now) (s .spot) (c .before .before .before .before .before .before .before .before .before .pre) (c .before .before .before .before .if1 .taken) _ _ (c .before .before .before .before .before .before .before .place-start .ensures .0) (ends-at _ (c .before .before .before .before .before .before .place-width .ensures .0)) _ (c .before .before .«open» .ensures)
 
--- src/lib.rt:135:22
 mul-raise : tie.Need-mul-raise
 mul-raise c = search needs
 
--- src/lib.rt:135:22
 sub-raise : tie.Need-sub-raise
 sub-raise c = search needs
 
--- src/lib.rt:135:22
 part-raise-start : tie.Need-part-raise-start
 part-raise-start c = search needs
 
--- src/lib.rt:135:22
 part-raise-end : tie.Need-part-raise-end
 part-raise-end c = search needs
 
--- src/lib.rt:135:9
 raise-requires : tie.Need-raise-requires
 raise-requires c κs = let s = c .before .before .before .before .before .before .before .args in raise-asks (s .shares) (s .who) (s .part .now) (s .spot) (c .before .before .before .before .before .before .before .pre) (c .before .before .if1 .left) _ _ (c .before .before .before .before .before .place-start .ensures .0) (ends-at _ (c .before .before .before .before .place-width .ensures .0)) (c .before .if2 .taken)
 
--- src/lib.rt:136:9
 same-length-2 : tie.Need-same-length-2
 same-length-2 c = search needs
 
--- src/lib.rt:136:9
 returns-2 : tie.Need-returns-2
 returns-2 c = let s = c .before .before .before .before .before .before .before .before .before .before .args in enters-listed (s .shares) (s .who) (s .part .now) (s .spot) (c .before .before .before .before .before .before .before .before .before .before .pre) (c .before .before .before .before .before .if1 .left) _ _ (c .before .before .before .before .before .before .before .before .place-start .ensures .0) (ends-at _ (c .before .before .before .before .before .before .before .place-width .ensures .0)) (c .before .before .before .before .if2 .taken) _ (c .before .before .raise .ensures)
 
--- src/lib.rt:138:19
 mul-insert : tie.Need-mul-insert
 mul-insert c = search needs
 
--- src/lib.rt:138:19
 sub-insert : tie.Need-sub-insert
 sub-insert c = search needs
 
--- src/lib.rt:138:19
 part-insert-start : tie.Need-part-insert-start
 part-insert-start c = search needs
 
--- src/lib.rt:138:19
 part-insert-end : tie.Need-part-insert-end
 part-insert-end c = search needs
 
--- src/lib.rt:138:5
 insert-requires : tie.Need-insert-requires
 insert-requires c κs = let s = c .before .before .before .before .before .before .before .args in insert-asks (s .shares) (s .who) (s .part .now) (s .spot) (c .before .before .before .before .before .before .before .pre) (c .before .before .if1 .left) _ _ (c .before .before .before .before .before .place-start .ensures .0) (ends-at _ (c .before .before .before .before .place-width .ensures .0)) (c .before .if2 .left)
 
--- src/lib.rt:124:1
 same-length-3 : tie.Need-same-length-3
 same-length-3 c = search needs
 
--- src/lib.rt:124:1
 returns-3 : tie.Need-returns-3
 returns-3 c = let s = c .before .before .before .before .before .before .before .before .before .before .args in enters-pair (s .shares) (s .who) (s .part .now) (s .spot) (c .before .before .before .before .before .before .before .before .before .before .pre) (c .before .before .before .before .before .if1 .left) _ _ (c .before .before .before .before .before .before .before .before .place-start .ensures .0) (ends-at _ (c .before .before .before .before .before .before .before .place-width .ensures .0)) (c .before .before .before .before .if2 .left) _ (c .before .before .insert .ensures)
 

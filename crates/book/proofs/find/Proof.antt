@@ -6,51 +6,39 @@ use borrow.Author.Needs.{needs}
 use Rattle.book.proofs.find.Statement.{statement}
 use Rattle.book.proofs.find.Tie as tie
 
--- src/lib.rt:63:9
 find-place-requires : tie.Need-find-place-requires
 find-place-requires c κs = search needs
 
--- src/lib.rt:64:19
 shared-slice-read-holders : tie.Need-shared-slice-read-holders
 shared-slice-read-holders c = search needs
 
--- src/lib.rt:66:9
 returns : tie.Need-returns
 returns c = let s = c .before .before .before .before .args in found-none (s .shares) (s .who) (s .second .0) (s .part .now) (c .before .before .before .before .pre) _ (c .before .before .find-place .ensures) (c .if1 .taken)
 
--- src/lib.rt:75:9
 place-start-requires : tie.Need-place-start-requires
 place-start-requires c κs = search needs
 
--- src/lib.rt:76:17
 place-width-requires : tie.Need-place-width-requires
 place-width-requires c κs = search needs
 
--- src/lib.rt:76:13
 add-e : tie.Need-add-e
 add-e c = search needs
 
--- src/lib.rt:77:28
 mul-look : tie.Need-mul-look
 mul-look c = search needs
 
--- src/lib.rt:77:28
 sub-look : tie.Need-sub-look
 sub-look c = search needs
 
--- src/lib.rt:77:28
 part-look-start : tie.Need-part-look-start
 part-look-start c = search needs
 
--- src/lib.rt:77:28
 part-look-end : tie.Need-part-look-end
 part-look-end c = let s = c .before .before .before .before .before .before .args in let k = in-part (s .shares) (class-of (s .who)) (s .part .now) (c .before .before .before .before .before .before .pre) _ (c .before .before .if1 .left) in omega arith
 
--- src/lib.rt:77:9
 look-requires : tie.Need-look-requires
 look-requires c κs = let s = c .before .before .before .before .before .before .before .args in part-wide (s .shares) (class-of (s .who)) (s .part .now) (c .before .before .before .before .before .before .before .pre) _ _ _ (c .before .before .before .if1 .left) (c .before .before .place-start .ensures .0) (ends-at _ (c .before .place-width .ensures .0))
 
--- src/lib.rt:59:1
 returns-2 : tie.Need-returns-2
 returns-2 c = let s = c .before .before .before .before .before .before .before .before .args in found-here (s .shares) (s .who) (s .second .0) (s .part .now) (c .before .before .before .before .before .before .before .before .pre) _ (c .before .before .before .before .before .before .find-place .ensures) (c .before .before .before .before .if1 .left) _ _ (c .before .before .before .place-start .ensures .0) (ends-at _ (c .before .before .place-width .ensures .0)) _ (c .look .ensures)
 

@@ -14,59 +14,45 @@ Inv-loop part shares who holders i₀ i = (w : ClassIs shares (class-of who) par
 abbrev μ-loop : tie.MeasureT-loop
 μ-loop part shares who holders i₀ i = getD part 1 0 - i
 
--- src/lib.rt:45:19
 shared-slice-read-holders : tie.Need-shared-slice-read-holders Inv-loop μ-loop
 shared-slice-read-holders c = search needs
 
--- src/lib.rt:47:5
 loop-holds : tie.Need-loop-holds Inv-loop μ-loop
 loop-holds c = λ w. seek-start _ _ _ w
 
--- src/lib.rt:48:13
 place-start-requires : tie.Need-place-start-requires Inv-loop μ-loop
 place-start-requires c κs = search needs
 
--- src/lib.rt:49:17
 add-b : tie.Need-add-b Inv-loop μ-loop
 add-b c = search needs
 
--- src/lib.rt:50:30
 mul-names : tie.Need-mul-names Inv-loop μ-loop
 mul-names c = search needs
 
--- src/lib.rt:50:30
 shared-slice-read-names : tie.Need-shared-slice-read-names Inv-loop μ-loop
 shared-slice-read-names c = let s = c .before .before .before .before .before .before .args in let k = in-part (s .shares) (class-of (s .who)) (s .part .now) (c .before .before .before .before .before .before .pre) (c .before .before .before .loop .i) (c .before .before .loop-test .taken) in omega arith
 
--- src/lib.rt:50:39
 mul-names-2 : tie.Need-mul-names-2 Inv-loop μ-loop
 mul-names-2 c = search needs
 
--- src/lib.rt:50:39
 shared-slice-read-names-2 : tie.Need-shared-slice-read-names-2 Inv-loop μ-loop
 shared-slice-read-names-2 c = let s = c .before .before .before .before .before .before .before .args in let k = in-part (s .shares) (class-of (s .who)) (s .part .now) (c .before .before .before .before .before .before .before .pre) (c .before .before .before .before .loop .i) (c .before .before .before .loop-test .taken) in omega arith
 
--- src/lib.rt:50:12
 names-requires : tie.Need-names-requires Inv-loop μ-loop
 names-requires c κs = search needs
 
--- src/lib.rt:51:13
 returns : tie.Need-returns Inv-loop μ-loop
 returns c = let s = c .before .before .before .before .before .before .before .before .before .args in let w = c .before .before .before .before .before .before .before .before .before .pre in let l = c .before .before .before .before .before .before .loop in seek-stop (s .shares) (s .who) (s .part .now) w (l .i) (l .inv w) (c .before .before .before .before .before .loop-test .taken) _ (c .before .before .before .before .place-start .ensures .0) _ (c .before .names .ensures) (c .if1 .taken)
 
--- src/lib.rt:53:9
 add-i : tie.Need-add-i Inv-loop μ-loop
 add-i c = search needs
 
--- src/lib.rt:47:5
 loop-less : tie.Need-loop-less Inv-loop μ-loop
 loop-less c = search needs
 
--- src/lib.rt:47:5
 loop-again : tie.Need-loop-again Inv-loop μ-loop
 loop-again c = λ w. let s = c .before .before .before .before .before .before .before .before .before .args in let l = c .before .before .before .before .before .before .loop in seek-on (s .shares) (s .who) (s .part .now) w (l .i) (l .inv w) (c .before .before .before .before .before .loop-test .taken) _ (c .before .before .before .before .place-start .ensures .0) _ (c .before .names .ensures) (c .if1 .left)
 
--- src/lib.rt:41:1
 returns-2 : tie.Need-returns-2 Inv-loop μ-loop
 returns-2 c = let s = c .before .before .before .before .args in let w = c .before .before .before .before .pre in let l = c .before .loop in seek-end (s .shares) (s .who) (s .part .now) w (l .i) (l .inv w) (c .loop-test .left)
 

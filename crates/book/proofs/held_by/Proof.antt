@@ -6,35 +6,27 @@ use borrow.Author.Needs.{needs}
 use Rattle.book.proofs.held_by.Statement.{statement}
 use Rattle.book.proofs.held_by.Tie as tie
 
--- src/lib.rt:181:9
 find-place-requires : tie.Need-find-place-requires
 find-place-requires c κs = search needs
 
--- src/lib.rt:182:19
 shared-slice-read-holders : tie.Need-shared-slice-read-holders
 shared-slice-read-holders c = search needs
 
--- src/lib.rt:184:9
 returns : tie.Need-returns
 returns c = let s = c .before .before .before .before .args in held-none (s .shares) (s .who) (s .part .now) (c .before .before .before .before .pre) _ (c .before .before .find-place .ensures) (c .if1 .taken)
 
--- src/lib.rt:186:13
 place-start-requires : tie.Need-place-start-requires
 place-start-requires c κs = search needs
 
--- src/lib.rt:186:13
 add-a : tie.Need-add-a
 add-a c = search needs
 
--- src/lib.rt:187:5
 mul-result : tie.Need-mul-result
 mul-result c = search needs
 
--- src/lib.rt:187:5
 shared-slice-read-result : tie.Need-shared-slice-read-result
 shared-slice-read-result c = let s = c .before .before .before .before .before .before .args in let k = in-part (s .shares) (class-of (s .who)) (s .part .now) (c .before .before .before .before .before .before .pre) _ (c .before .before .if1 .left) in omega arith
 
--- src/lib.rt:177:1
 returns-2 : tie.Need-returns-2
 returns-2 c = let s = c .before .before .before .before .before .before .args in held-here (s .shares) (s .who) (s .part .now) (c .before .before .before .before .before .before .pre) _ (c .before .before .before .before .find-place .ensures) (c .before .before .if1 .left) _ (c .before .place-start .ensures .0)
 

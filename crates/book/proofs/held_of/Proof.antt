@@ -3,11 +3,9 @@ use borrow.Author.Needs.{needs}
 use Rattle.book.proofs.held_of.Statement.{statement}
 use Rattle.book.proofs.held_of.Tie as tie
 
--- src/lib.rt:163:5
 read-requires : tie.Need-read-requires
 read-requires c κs = search needs
 
--- src/lib.rt:159:1
 returns : tie.Need-returns
 returns c = λ b k. held-totals _ _ (c .read .ensures) b k
 

@@ -5,127 +5,96 @@ use borrow.Author.Needs.{needs}
 use Rattle.book.proofs.return_place.Statement.{statement}
 use Rattle.book.proofs.return_place.Tie as tie
 
--- src/lib.rt:203:19
 slice-read-holders : tie.Need-slice-read-holders
 slice-read-holders c = search needs
 
--- src/lib.rt:204:9
 place-width-requires : tie.Need-place-width-requires
 place-width-requires c κs = search needs
 
--- src/lib.rt:205:9
 place-start-requires : tie.Need-place-start-requires
 place-start-requires c κs = let s = c .before .before .before .args in let f = c .before .before .before .pre .found in (f .class .pairs, place-few (s .shares) (s .who) (s .part .now) (s .spot) f)
 
--- src/lib.rt:206:13
 add-e : tie.Need-add-e
 add-e c = search needs
 
--- src/lib.rt:208:13
 place-start-requires-2 : tie.Need-place-start-requires-2
 place-start-requires-2 c κs = search needs
 
--- src/lib.rt:209:25
 mul-close-up : tie.Need-mul-close-up
 mul-close-up c = search needs
 
--- src/lib.rt:209:25
 sub-close-up : tie.Need-sub-close-up
 sub-close-up c = search needs
 
--- src/lib.rt:209:25
 part-close-up-start : tie.Need-part-close-up-start
 part-close-up-start c = search needs
 
--- src/lib.rt:209:25
 part-close-up-end : tie.Need-part-close-up-end
 part-close-up-end c = search needs
 
--- src/lib.rt:209:9
 close-up-requires : tie.Need-close-up-requires
 close-up-requires c κs = search needs
 
--- src/lib.rt:210:9
 same-length : tie.Need-same-length
 same-length c = search needs
 
--- src/lib.rt:210:9
 returns : tie.Need-returns
 returns c = let s = c .before .before .before .before .before .before .before .before .before .before .before .args in let l = c .before .before .before .before .before .before .before .before .before .before .before .pre in closes (s .shares) (s .who) (s .part .now) (s .spot) (l .found) (l .yes) (c .before .before .before .before .before .if1 .taken) _ _ (c .before .before .before .before .before .before .before .place-start .ensures .0) (c .before .before .before .before .place-start2 .ensures .0) _ (rw (c .before .before .before .before .before .before .before .before .place-width .ensures .0) at (c .before .before .close-up .ensures))
 
--- src/lib.rt:212:30
 mul-count : tie.Need-mul-count
 mul-count c = search needs
 
--- src/lib.rt:212:30
 sub-count : tie.Need-sub-count
 sub-count c = search needs
 
--- src/lib.rt:212:30
 part-count-start : tie.Need-part-count-start
 part-count-start c = search needs
 
--- src/lib.rt:212:30
 part-count-end : tie.Need-part-count-end
 part-count-end c = search needs
 
--- src/lib.rt:212:9
 count-requires : tie.Need-count-requires
 count-requires c κs = let s = c .before .before .before .before .before .before .before .before .args in let l = c .before .before .before .before .before .before .before .before .pre in count-asks (s .shares) (s .who) (s .part .now) (s .spot) (l .found) (l .yes) (c .before .before .if1 .left) _ _ (c .before .before .before .before .place-start .ensures .0) (ends-at _ (c .before .before .before .before .before .place-width .ensures .0))
 
--- src/lib.rt:214:23
 mul-remove : tie.Need-mul-remove
 mul-remove c = search needs
 
--- src/lib.rt:214:23
 sub-remove : tie.Need-sub-remove
 sub-remove c = search needs
 
--- src/lib.rt:214:23
 part-remove-start : tie.Need-part-remove-start
 part-remove-start c = search needs
 
--- src/lib.rt:214:23
 part-remove-end : tie.Need-part-remove-end
 part-remove-end c = search needs
 
--- src/lib.rt:214:9
 remove-requires : tie.Need-remove-requires
 remove-requires c κs = let s = c .before .before .before .before .before .before .before .before .before .before .before .args in let l = c .before .before .before .before .before .before .before .before .before .before .before .pre in remove-asks (s .shares) (s .who) (s .part .now) (s .spot) (l .found) (l .yes) (c .before .before .before .before .before .if1 .left) _ _ (c .before .before .before .before .before .before .before .place-start .ensures .0) (ends-at _ (c .before .before .before .before .before .before .before .before .place-width .ensures .0))
 
--- src/lib.rt:215:9
 same-length-2 : tie.Need-same-length-2
 same-length-2 c = search needs
 
--- src/lib.rt:215:9
 returns-2 : tie.Need-returns-2
 returns-2 c = let s = c .before .before .before .before .before .before .before .before .before .before .before .before .before .before .args in let l = c .before .before .before .before .before .before .before .before .before .before .before .before .before .before .pre in returns-single (s .shares) (s .who) (s .part .now) (s .spot) (l .found) (l .yes) (c .before .before .before .before .before .before .before .before .if1 .left) _ _ (c .before .before .before .before .before .before .before .before .before .before .place-start .ensures .0) (ends-at _ (c .before .before .before .before .before .before .before .before .before .before .before .place-width .ensures .0)) _ (c .before .before .before .before .before .count .ensures) (c .before .before .before .before .if2 .taken) _ (c .before .before .remove .ensures)
 
--- src/lib.rt:217:18
 mul-lower : tie.Need-mul-lower
 mul-lower c = search needs
 
--- src/lib.rt:217:18
 sub-lower : tie.Need-sub-lower
 sub-lower c = search needs
 
--- src/lib.rt:217:18
 part-lower-start : tie.Need-part-lower-start
 part-lower-start c = search needs
 
--- src/lib.rt:217:18
 part-lower-end : tie.Need-part-lower-end
 part-lower-end c = search needs
 
--- src/lib.rt:217:5
 lower-requires : tie.Need-lower-requires
 lower-requires c κs = let s = c .before .before .before .before .before .before .before .before .before .before .before .args in let l = c .before .before .before .before .before .before .before .before .before .before .before .pre in lower-asks (s .shares) (s .who) (s .part .now) (s .spot) (l .found) (l .yes) (c .before .before .before .before .before .if1 .left) _ _ (c .before .before .before .before .before .before .before .place-start .ensures .0) (ends-at _ (c .before .before .before .before .before .before .before .before .place-width .ensures .0))
 
--- src/lib.rt:199:1
 same-length-3 : tie.Need-same-length-3
 same-length-3 c = search needs
 
--- src/lib.rt:199:1
 returns-3 : tie.Need-returns-3
 returns-3 c = let s = c .before .before .before .before .before .before .before .before .before .before .before .before .before .before .args in let l = c .before .before .before .before .before .before .before .before .before .before .before .before .before .before .pre in returns-lower (s .shares) (s .who) (s .part .now) (s .spot) (l .found) (l .yes) (c .before .before .before .before .before .before .before .before .if1 .left) _ _ (c .before .before .before .before .before .before .before .before .before .before .place-start .ensures .0) (ends-at _ (c .before .before .before .before .before .before .before .before .before .before .before .place-width .ensures .0)) _ (c .before .before .before .before .before .count .ensures) (c .before .before .before .before .if2 .left) _ (c .before .before .lower .ensures)
 

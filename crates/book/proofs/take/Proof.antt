@@ -1,42 +1,31 @@
 use Rattle.book.proofs.Entering.{found-of, refused, roomy-of, granted-turns}
-use Rattle.book.specs.Pairs.{before}
-use Rattle.book.specs.Sums.{taken}
-use Rattle.model.specs.Book.{enter}
 use borrow.Author.Needs.{needs}
 use borrow.Author.Tests.{not-true, not-false}
 use mathlib.Core.Path.{sym, _∙_}
 use Rattle.book.proofs.take.Statement.{statement}
 use Rattle.book.proofs.take.Tie as tie
 
--- src/lib.rt:135:9
 find-requires : tie.Need-find-requires
 find-requires c κs = search needs
 
--- src/lib.rt:136:9
 draw-requires : tie.Need-draw-requires
 draw-requires c κs = let s = c .before .before .before .before .args in (found-of (s .shares) (s .who) (s .second .0) (s .part .now) (c .before .before .before .before .pre .0) _ (c .before .find .ensures), c .before .before .before .before .pre .1)
 
--- src/lib.rt:137:9
 is-granted-requires : tie.Need-is-granted-requires
 is-granted-requires c κs = search needs
 
--- src/lib.rt:138:9
 same-length : tie.Need-same-length
 same-length c = search needs
 
--- src/lib.rt:138:9
 returns : tie.Need-returns
 returns c = let s = c .before .before .before .before .before .before .before .args in refused (s .shares) (s .who) (s .second .0) (s .part .now) (c .before .before .before .before .before .before .before .pre .0) _ (c .before .before .before .before .find .ensures) (s .limits) (s .closed) _ (c .before .before .draw .ensures) (sym (c .before .is-granted .ensures) ∙ not-true _ (c .if1 .taken))
 
--- src/lib.rt:140:5
 enter-requires : tie.Need-enter-requires
 enter-requires c κs = let s = c .before .before .before .before .before .before .before .before .args in roomy-of (s .shares) (s .who) (s .second .0) (s .part .now) (c .before .before .before .before .before .before .before .before .pre .0) _ (c .before .before .before .before .before .find .ensures) (s .limits) (s .closed) _ (c .before .before .before .draw .ensures) (sym (c .before .before .is-granted .ensures) ∙ not-false _ (c .before .if1 .left))
 
--- src/lib.rt:131:1
 same-length-2 : tie.Need-same-length-2
 same-length-2 c = search needs
 
--- src/lib.rt:131:1
 returns-2 : tie.Need-returns-2
 returns-2 c = let s = c .before .before .before .before .before .before .before .before .before .before .before .args in granted-turns (s .shares) (s .who) (s .second .0) (s .part .now) (c .before .before .before .before .before .before .before .before .before .before .before .pre .0) _ (c .before .before .before .before .before .before .before .before .find .ensures) (s .limits) (s .closed) _ (c .before .before .before .before .before .before .draw .ensures) (sym (c .before .before .before .before .before .is-granted .ensures) ∙ not-false _ (c .before .before .before .before .if1 .left)) _ (c .before .before .enter .ensures)
 

@@ -1,59 +1,43 @@
 use Rattle.book.proofs.Entering.{found-of}
 use Rattle.book.proofs.Returning.{untake-asks, untakes-none, listed-of, untakes}
-use Rattle.book.specs.Pairs.{before}
-use Rattle.book.specs.Rules.{if-one}
-use Rattle.book.specs.Sums.{taken}
-use Rattle.model.specs.Book.{place-units}
 use borrow.Author.Needs.{needs}
 use borrow.Author.Tests.{not-true, not-false}
 use Rattle.book.proofs.untake.Statement.{statement}
 use Rattle.book.proofs.untake.Tie as tie
 
--- src/lib.rt:194:9
 find-requires : tie.Need-find-requires
 find-requires c κs = search needs
 
--- src/lib.rt:196:9
 same-length : tie.Need-same-length
 same-length c = search needs
 
--- src/lib.rt:196:9
 returns : tie.Need-returns
 returns c = let s = c .before .before .before .before .before .args in untakes-none (s .shares) (s .who) (s .second .0) (s .part .now) (c .before .before .before .before .before .pre) _ (c .before .before .find .ensures) (not-true _ (c .if1 .taken))
 
--- src/lib.rt:198:9
 place-units-requires : tie.Need-place-units-requires
 place-units-requires c κs = search needs
 
--- src/lib.rt:199:9
 if-one-requires : tie.Need-if-one-requires
 if-one-requires c κs = search needs
 
--- src/lib.rt:200:9
 if-one-requires-2 : tie.Need-if-one-requires-2
 if-one-requires-2 c κs = search needs
 
--- src/lib.rt:201:9
 read-requires : tie.Need-read-requires
 read-requires c κs = search needs
 
--- src/lib.rt:202:9
 lent-to-untake-requires : tie.Need-lent-to-untake-requires
 lent-to-untake-requires c κs = let s = c .before .before .before .before .before .before .before .before .before .before .args in untake-asks (s .shares) (s .who) (s .part .now) _ (found-of (s .shares) (s .who) (s .second .0) (s .part .now) (c .before .before .before .before .before .before .before .before .before .before .pre) _ (c .before .before .before .before .before .before .before .find .ensures)) (not-false _ (c .before .before .before .before .before .if1 .left)) _ _ _ _ (c .before .before .before .before .place-units .ensures) (c .before .before .before .if-one .ensures) (c .before .before .if-one2 .ensures) (c .read .ensures)
 
--- src/lib.rt:203:5
 return-place-requires : tie.Need-return-place-requires
 return-place-requires c κs = let s = c .before .before .before .before .before .before .before .before .before .before .before .before .args in listed-of (s .shares) (s .who) (s .second .0) (s .part .now) (c .before .before .before .before .before .before .before .before .before .before .before .before .pre) _ (c .before .before .before .before .before .before .before .before .before .find .ensures) (not-false _ (c .before .before .before .before .before .before .before .if1 .left))
 
--- src/lib.rt:204:5
 write-requires : tie.Need-write-requires
 write-requires c κs = search needs
 
--- src/lib.rt:190:1
 same-length-2 : tie.Need-same-length-2
 same-length-2 c = search needs
 
--- src/lib.rt:190:1
 returns-2 : tie.Need-returns-2
 returns-2 c = let s = c .before .before .before .before .before .before .before .before .before .before .before .before .before .before .before .before .before .before .before .args in rw (c .before .before .write .ensures) (untakes (s .shares) (s .who) (s .second .0) (s .part .now) (c .before .before .before .before .before .before .before .before .before .before .before .before .before .before .before .before .before .before .before .pre) _ (c .before .before .before .before .before .before .before .before .before .before .before .before .before .before .before .before .find .ensures) (not-false _ (c .before .before .before .before .before .before .before .before .before .before .before .before .before .before .if1 .left)) _ _ _ _ _ _ (c .before .before .before .before .before .before .before .before .before .before .before .before .before .place-units .ensures) (c .before .before .before .before .before .before .before .before .before .before .before .before .if-one .ensures) (c .before .before .before .before .before .before .before .before .before .before .before .if-one2 .ensures) (c .before .before .before .before .before .before .before .before .before .read .ensures) (c .before .before .before .before .before .before .before .before .lent-to-untake .ensures) (c .before .before .before .before .before .before .return-place .ensures))
 

@@ -10,43 +10,33 @@ Inv-loop words i₀ i = i ≤ length words
 abbrev μ-loop : tie.MeasureT-loop
 μ-loop words i₀ i = length words - i
 
--- src/main.rt:25:5
 loop-holds : tie.Need-loop-holds Inv-loop μ-loop
 loop-holds c = search needs
 
--- src/main.rt:26:15
 mul-print : tie.Need-mul-print Inv-loop μ-loop
 mul-print c = search needs
 
--- src/main.rt:26:15
 shared-slice-read-print : tie.Need-shared-slice-read-print Inv-loop μ-loop
 shared-slice-read-print c = search needs
 
--- src/main.rt:26:9
 print-requires : tie.Need-print-requires Inv-loop μ-loop
 print-requires c κs = search needs
 
--- src/main.rt:27:9
 add-i : tie.Need-add-i Inv-loop μ-loop
 add-i c = search needs
 
--- src/main.rt:25:5
 loop-less : tie.Need-loop-less Inv-loop μ-loop
 loop-less c = search needs
 
--- src/main.rt:25:5
 loop-again : tie.Need-loop-again Inv-loop μ-loop
 loop-again c = search needs
 
--- src/main.rt:30:22
 slice-aggregate-write-all : tie.Need-slice-aggregate-write-all Inv-loop μ-loop
 slice-aggregate-write-all c = search needs
 
--- src/main.rt:30:5
 write-all-requires : tie.Need-write-all-requires Inv-loop μ-loop
 write-all-requires c κs = search needs
 
--- src/main.rt:23:1
 returns : tie.Need-returns Inv-loop μ-loop
 returns c = search needs
 

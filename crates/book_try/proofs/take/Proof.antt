@@ -1,27 +1,20 @@
-use Rattle.book.specs.Pairs.{before}
 use Rattle.book_try.proofs.Kept.{take-asks, take-keeps}
 use borrow.Author.Needs.{needs}
-use lib.ListN.{take}
 use Rattle.book_try.proofs.take.Statement.{statement}
 use Rattle.book_try.proofs.take.Tie as tie
 
--- src/main.rt:72:9
 take-requires : tie.Need-take-requires
 take-requires c κs = let s = c .before .before .args in take-asks (s .id) (s .second) (s .words .now) (c .before .before .pre .0)
 
--- src/main.rt:80:11
 number-of-requires : tie.Need-number-of-requires
 number-of-requires c κs = search needs
 
--- src/main.rt:80:5
 print-requires : tie.Need-print-requires
 print-requires c κs = search needs
 
--- src/main.rt:55:1
 same-length : tie.Need-same-length
 same-length c = search needs
 
--- src/main.rt:55:1
 returns : tie.Need-returns
 returns c = let s = c .before .before .before .before .before .before .before .args in take-keeps (s .id) (s .second) (s .words .now) (c .before .before .before .before .before .before .before .pre .0) (c .before .before .before .before .before .before .before .pre .1) _ _ (c .before .before .before .before .take .ensures)
 

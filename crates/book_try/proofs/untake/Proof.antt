@@ -1,18 +1,14 @@
-use Rattle.book.specs.Pairs.{before}
 use Rattle.book_try.proofs.Kept.{asks, untake-keeps}
 use borrow.Author.Needs.{needs}
 use Rattle.book_try.proofs.untake.Statement.{statement}
 use Rattle.book_try.proofs.untake.Tie as tie
 
--- src/main.rt:94:5
 untake-requires : tie.Need-untake-requires
 untake-requires c κs = let s = c .before .before .args in asks (s .id) (s .second) (s .words .now) (c .before .before .pre)
 
--- src/main.rt:84:1
 same-length : tie.Need-same-length
 same-length c = search needs
 
--- src/main.rt:84:1
 returns : tie.Need-returns
 returns c = let s = c .before .before .before .before .before .args in untake-keeps (s .id) (s .second) (s .words .now) (c .before .before .before .before .before .pre) _ (c .before .before .untake .ensures)
 

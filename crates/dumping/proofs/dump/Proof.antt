@@ -3,23 +3,18 @@ use borrow.Author.Needs.{needs}
 use Rattle.dumping.proofs.dump.Statement.{statement}
 use Rattle.dumping.proofs.dump.Tie as tie
 
--- src/lib.rt:26:16
 ring-of-requires : tie.Need-ring-of-requires
 ring-of-requires c κs = search needs
 
--- src/lib.rt:27:16
 add-wide : tie.Need-add-wide
 add-wide c = let f = few (c .before .before .before .args .u) (c .before .before .before .args .part .now) (c .before .before .before .pre .0) .slots in search (f, needs)
 
--- src/lib.rt:28:5
 put-dump-requires : tie.Need-put-dump-requires
 put-dump-requires c κs = (may-walk (c .before .before .before .before .args .u) (c .before .before .before .before .args .part .now) (c .before .before .before .before .pre .0) _ (c .before .ring-of .ensures), has-room (c .before .before .before .before .args .u) (c .before .before .before .before .args .part .now) (c .before .before .before .before .pre .0) _ (c .before .ring-of .ensures) (c .before .before .before .before .pre .1))
 
--- src/lib.rt:22:1
 same-length : tie.Need-same-length
 same-length c = search needs
 
--- src/lib.rt:22:1
 returns : tie.Need-returns
 returns c = wrote (c .before .before .before .before .before .before .before .args .u) (c .before .before .before .before .before .before .before .args .part .now) (c .before .before .before .before .before .before .before .pre .0) _ (c .before .before .before .before .ring-of .ensures) (c .before .before .put-dump .ensures)
 

@@ -3,19 +3,15 @@ use borrow.Author.Needs.{needs}
 use Rattle.dumping.proofs.dump_length.Statement.{statement}
 use Rattle.dumping.proofs.dump_length.Tie as tie
 
--- src/lib.rt:16:16
 ring-of-requires : tie.Need-ring-of-requires
 ring-of-requires c κs = search needs
 
--- src/lib.rt:17:16
 add-wide : tie.Need-add-wide
 add-wide c = let f = few (c .before .before .args .u) (c .before .before .args .part .now) (c .before .before .pre) .slots in search (f, needs)
 
--- src/lib.rt:18:5
 dump-length-requires : tie.Need-dump-length-requires
 dump-length-requires c κs = may-walk (c .before .before .args .u) (c .before .before .args .part .now) (c .before .before .pre) _ (c .ring-of .ensures)
 
--- src/lib.rt:12:1
 returns : tie.Need-returns
 returns c = counted (c .before .before .before .args .u) (c .before .before .before .args .part .now) (c .before .before .before .pre) _ (c .before .ring-of .ensures) _ (c .dump-length .ensures)
 

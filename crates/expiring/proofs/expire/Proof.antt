@@ -3,35 +3,27 @@ use borrow.Author.Needs.{needs}
 use Rattle.expiring.proofs.expire.Statement.{statement}
 use Rattle.expiring.proofs.expire.Tie as tie
 
--- src/lib.rt:29:9
 least-published-requires : tie.Need-least-published-requires
 least-published-requires c κs = search needs
 
--- src/lib.rt:30:41
 ceil-div-requires : tie.Need-ceil-div-requires
 ceil-div-requires c κs = search needs
 
--- src/lib.rt:30:20
 capped-to-32-requires : tie.Need-capped-to-32-requires
 capped-to-32-requires c κs = search needs
 
--- src/lib.rt:31:5
 expire-class-requires : tie.Need-expire-class-requires
 expire-class-requires c κs = let s = c .before .before .before .before .before .before in (s .pre, second-low _ _ (c .before .capped-to-32 .ensures))
 
--- src/lib.rt:32:5
 expire-class-requires-2 : tie.Need-expire-class-requires-2
 expire-class-requires-2 c κs = let s = c .before .before .before .before .before .before .before .before .before .before in (c .before .before .before .expire-class .ensures .0, second-low _ _ (c .before .before .before .before .before .capped-to-32 .ensures))
 
--- src/lib.rt:33:5
 expire-class-requires-3 : tie.Need-expire-class-requires-3
 expire-class-requires-3 c κs = let s = c .before .before .before .before .before .before .before .before .before .before .before .before .before .before in (c .before .before .before .expire-class2 .ensures .0, second-low _ _ (c .before .before .before .before .before .before .before .before .before .capped-to-32 .ensures))
 
--- src/lib.rt:25:1
 same-length : tie.Need-same-length
 same-length c = search needs
 
--- src/lib.rt:25:1
 returns : tie.Need-returns
 returns c = let s = c .before .before .before .before .before .before .before .before .before .before .before .before .before .before .before .before .before in all-done (s .args .s) (s .args .reading .0) _ _ _ (c .before .before .before .before .before .before .before .before .before .before .before .before .before .ceil-div .ensures) (c .before .before .before .before .before .before .before .before .before .before .before .before .capped-to-32 .ensures) (s .args .run .now) _ _ _ (c .before .before .before .before .before .before .before .before .before .before .before .before .before .before .least-published .ensures) (c .before .before .before .before .before .before .before .before .before .before .expire-class .ensures .1) (c .before .before .before .before .before .before .expire-class2 .ensures .1) (c .before .before .expire-class3 .ensures .1)
 

@@ -7,43 +7,33 @@ use borrow.Author.Needs.{needs}
 use Rattle.expiring.proofs.expire_class.Statement.{statement}
 use Rattle.expiring.proofs.expire_class.Tie as tie
 
--- src/lib.rt:19:9
 class-start-requires : tie.Need-class-start-requires
 class-start-requires c κs = search needs
 
--- src/lib.rt:20:17
 class-width-requires : tie.Need-class-width-requires
 class-width-requires c κs = let s = c .before .before in fit-shares (s .args .s) (s .pre .0 .fit)
 
--- src/lib.rt:20:13
 add-e : tie.Need-add-e
 add-e c = search needs
 
--- src/lib.rt:21:20
 mul-expire : tie.Need-mul-expire
 mul-expire c = search needs
 
--- src/lib.rt:21:20
 sub-expire : tie.Need-sub-expire
 sub-expire c = search needs
 
--- src/lib.rt:21:20
 part-expire-start : tie.Need-part-expire-start
 part-expire-start c = search needs
 
--- src/lib.rt:21:20
 part-expire-end : tie.Need-part-expire-end
 part-expire-end c = search needs
 
--- src/lib.rt:21:5
 expire-requires : tie.Need-expire-requires
 expire-requires c κs = let s = c .before .before .before .before in (class-asks (s .args .s) (s .args .class) _ _ (c .before .before .class-start .ensures .0) (ap (λ (n : ℕ). c .before .before .class-start .result + n) (c .before .class-width .ensures .0)) (s .args .run .now) (s .pre .0), s .pre .1)
 
--- src/lib.rt:15:1
 same-length : tie.Need-same-length
 same-length c = search needs
 
--- src/lib.rt:15:1
 returns : tie.Need-returns
 returns c = let s = c .before .before .before .before .before .before .before in class-done (s .args .s) (s .args .class) _ _ (c .before .before .before .before .before .class-start .ensures .0) (ap (λ (n : ℕ). c .before .before .before .before .before .class-start .result + n) (c .before .before .before .before .class-width .ensures .0)) (s .args .run .now) _ (s .args .t .0) (s .pre .1) (s .pre .0) (c .before .before .expire .ensures)
 

@@ -3,51 +3,39 @@ use borrow.Author.Needs.{needs}
 use Rattle.expiry.proofs.expire.Statement.{statement}
 use Rattle.expiry.proofs.expire.Tie as tie
 
--- src/lib.rt:124:19
 slice-read-expired : tie.Need-slice-read-expired
 slice-read-expired c = search needs
 
--- src/lib.rt:125:15
 add-capped-to-32 : tie.Need-add-capped-to-32
 add-capped-to-32 c = search needs
 
--- src/lib.rt:125:8
 capped-to-32-requires : tie.Need-capped-to-32-requires
 capped-to-32-requires c κs = search needs
 
--- src/lib.rt:126:13
 read-requires : tie.Need-read-requires
 read-requires c κs = search needs
 
--- src/lib.rt:127:13
 lent-to-expire-requires : tie.Need-lent-to-expire-requires
 lent-to-expire-requires c κs = search needs
 
--- src/lib.rt:128:9
 write-requires : tie.Need-write-requires
 write-requires c κs = search needs
 
--- src/lib.rt:129:9
 same-length : tie.Need-same-length
 same-length c = search needs
 
--- src/lib.rt:129:9
 returns : tie.Need-returns
 returns c = let s = c .before .before .before .before .before .before .before .before .before .before .before .args in rw (c .before .before .write .ensures) (noted (s .shares) (s .class) (s .t .0) (s .part .now) (c .before .before .before .before .before .before .before .before .before .before .before .pre .0) (rw (c .before .before .before .before .before .before .before .before .capped-to-32 .ensures) at (c .before .before .before .before .before .before .before .if1 .taken)) _ _ (c .before .before .before .before .before .read .ensures) (c .before .before .before .before .lent-to-expire .ensures))
 
--- src/lib.rt:132:9
 returns-2 : tie.Need-returns-2
 returns-2 c = let s = c .before .before .before .before .before .args in waits (s .shares) (s .class) (s .t .0) (s .part .now) (c .before .before .before .before .before .pre .0) (rw (c .before .before .capped-to-32 .ensures) at (c .before .if1 .left)) (c .if2 .taken)
 
--- src/lib.rt:134:5
 expire-pairs-requires : tie.Need-expire-pairs-requires
 expire-pairs-requires c κs = search needs
 
--- src/lib.rt:119:1
 same-length-2 : tie.Need-same-length-2
 same-length-2 c = search needs
 
--- src/lib.rt:119:1
 returns-3 : tie.Need-returns-3
 returns-3 c = let s = c .before .before .before .before .before .before .before .before .before .args in moves-on (s .shares) (s .class) (s .t .0) (s .part .now) (c .before .before .before .before .before .before .before .before .before .pre .0) (rw (c .before .before .before .before .before .before .capped-to-32 .ensures) at (c .before .before .before .before .before .if1 .left)) (c .before .before .before .before .if2 .left) _ (c .before .before .expire-pairs .ensures)
 

@@ -14,35 +14,27 @@ Inv-loop part₀ shares class t holders kept₀ i₀ part kept i = (length part 
 abbrev μ-loop : tie.MeasureT-loop
 μ-loop part₀ shares class t holders kept₀ i₀ part kept i = getD part₀ 1 0 - i
 
--- src/lib.rt:71:19
 slice-read-holders : tie.Need-slice-read-holders Inv-loop μ-loop
 slice-read-holders c = search needs
 
--- src/lib.rt:78:5
 loop-holds : tie.Need-loop-holds Inv-loop μ-loop
 loop-holds c = let s = c .before .before .args in (refl, omega arith, starts (s .shares) (s .class) (s .t) (s .part .now))
 
--- src/lib.rt:79:9
 expire-place-requires : tie.Need-expire-place-requires Inv-loop μ-loop
 expire-place-requires c κs = let s = c .before .before .before .before .before .args in let l = c .before .before .loop in stands (s .shares) (s .class) (s .t) (s .part .now) (c .before .before .before .before .before .pre) (l .i) (l .kept) (l .part) (l .inv .2) (c .before .loop-test .taken) (l .inv .0)
 
--- src/lib.rt:80:9
 add-i : tie.Need-add-i Inv-loop μ-loop
 add-i c = search needs
 
--- src/lib.rt:78:5
 loop-less : tie.Need-loop-less Inv-loop μ-loop
 loop-less c = search needs
 
--- src/lib.rt:78:5
 loop-again : tie.Need-loop-again Inv-loop μ-loop
 loop-again c = let s = c .before .before .before .before .before .before .before .before .args in let l = c .before .before .before .before .before .loop in (search needs, omega arith, on (s .shares) (s .class) (s .t) (s .part .now) (c .before .before .before .before .before .before .before .before .pre) (l .i) (l .kept) (l .part) (l .inv .2) (c .before .before .before .before .loop-test .taken) _ _ (c .before .before .expire-place .ensures))
 
--- src/lib.rt:67:1
 same-length : tie.Need-same-length Inv-loop μ-loop
 same-length c = search needs
 
--- src/lib.rt:67:1
 returns : tie.Need-returns Inv-loop μ-loop
 returns c = let s = c .before .before .before .before .args in let l = c .before .loop in let e : l .i ≡ getD (s .part .now) 1 0 = omega arith in subst (λ (n : ℕ). Walking (s .shares) (s .class) (s .t) (s .part .now) n (l .kept) (l .part)) e (l .inv .2)
 

@@ -3,35 +3,27 @@ use borrow.Author.Needs.{needs}
 use Rattle.expiry.proofs.with_place.Statement.{statement}
 use Rattle.expiry.proofs.with_place.Tie as tie
 
--- src/lib.rt:33:19
 shared-slice-read-entries : tie.Need-shared-slice-read-entries
 shared-slice-read-entries c = search needs
 
--- src/lib.rt:34:48
 shared-slice-read-units-of : tie.Need-shared-slice-read-units-of
 shared-slice-read-units-of c = search needs
 
--- src/lib.rt:34:9
 units-of-requires : tie.Need-units-of-requires
 units-of-requires c κs = search needs
 
--- src/lib.rt:36:17
 add-t10 : tie.Need-add-t10
 add-t10 c = search needs
 
--- src/lib.rt:37:18
 add-t8 : tie.Need-add-t8
 add-t8 c = search needs
 
--- src/lib.rt:38:16
 add-t11 : tie.Need-add-t11
 add-t11 c = search needs
 
--- src/lib.rt:38:16
 add-t12 : tie.Need-add-t12
 add-t12 c = search needs
 
--- src/lib.rt:29:1
 returns : tie.Need-returns
 returns c = let s = c .before .before .before .before .before .before .before .args in rw (c .before .before .before .units-of .ensures .1 (getD (s .place .now) 1 0))
 

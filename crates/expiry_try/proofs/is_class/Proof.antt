@@ -5,19 +5,15 @@ use borrow.Author.Needs.{needs}
 use Rattle.expiry_try.proofs.is_class.Statement.{statement}
 use Rattle.expiry_try.proofs.is_class.Tie as tie
 
--- src/main.rt:61:9
 returns : tie.Need-returns
 returns c = λ t. no (cc)
 
--- src/main.rt:63:31
 shares-requires : tie.Need-shares-requires
 shares-requires c κs = search needs
 
--- src/main.rt:63:5
 class-sound-requires : tie.Need-class-sound-requires
 class-sound-requires c κs = in-bounds _ (c .shares .ensures) _ (c .before .if1 .left)
 
--- src/main.rt:57:1
 returns-2 : tie.Need-returns-2
 returns-2 c = λ t. is-class _ (c .before .before .if1 .left) (sym (rw (c .before .shares .ensures) at (c .class-sound .ensures)) ∙ t)
 

@@ -10,39 +10,30 @@ Inv-loop words i₀ i = i ≤ length words
 abbrev μ-loop : tie.MeasureT-loop
 μ-loop words i₀ i = length words - i
 
--- src/main.rt:38:5
 loop-holds : tie.Need-loop-holds Inv-loop μ-loop
 loop-holds c = search needs
 
--- src/main.rt:39:15
 mul-print : tie.Need-mul-print Inv-loop μ-loop
 mul-print c = search needs
 
--- src/main.rt:39:15
 shared-slice-read-print : tie.Need-shared-slice-read-print Inv-loop μ-loop
 shared-slice-read-print c = search needs
 
--- src/main.rt:39:9
 print-requires : tie.Need-print-requires Inv-loop μ-loop
 print-requires c κs = search needs
 
--- src/main.rt:40:9
 add-i : tie.Need-add-i Inv-loop μ-loop
 add-i c = search needs
 
--- src/main.rt:38:5
 loop-less : tie.Need-loop-less Inv-loop μ-loop
 loop-less c = search needs
 
--- src/main.rt:38:5
 loop-again : tie.Need-loop-again Inv-loop μ-loop
 loop-again c = search needs
 
--- src/main.rt:42:5
 end-line-requires : tie.Need-end-line-requires Inv-loop μ-loop
 end-line-requires c κs = search needs
 
--- src/main.rt:36:1
 returns : tie.Need-returns Inv-loop μ-loop
 returns c = search needs
 

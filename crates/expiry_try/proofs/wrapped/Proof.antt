@@ -6,43 +6,33 @@ use borrow.Author.Needs.{needs}
 use Rattle.expiry_try.proofs.wrapped.Statement.{statement}
 use Rattle.expiry_try.proofs.wrapped.Tie as tie
 
--- src/main.rt:80:17
 slice-read-first : tie.Need-slice-read-first
 slice-read-first c = search needs
 
--- src/main.rt:81:18
 slice-read-second : tie.Need-slice-read-second
 slice-read-second c = search needs
 
--- src/main.rt:82:5
 slice-write-words : tie.Need-slice-write-words
 slice-write-words c = search needs
 
--- src/main.rt:83:5
 slice-write-words-2 : tie.Need-slice-write-words-2
 slice-write-words-2 c = search needs
 
--- src/main.rt:84:16
 is-class-requires : tie.Need-is-class-requires
 is-class-requires c κs = search needs
 
--- src/main.rt:84:5
 print-test-requires : tie.Need-print-test-requires
 print-test-requires c κs = search needs
 
--- src/main.rt:85:5
 slice-write-words-3 : tie.Need-slice-write-words-3
 slice-write-words-3 c = let s = c .before .before .before .before .before .before in let l = s .args .words .now in let p : 11 < length l = s .pre in let e : length (set (set l 9 18_446_744_073_709_551_615) 11 6) ≡ length l = length-set (set l 9 18_446_744_073_709_551_615) 11 6 ∙ length-set l 9 18_446_744_073_709_551_615 in let q : 9 < length (set (set l 9 18_446_744_073_709_551_615) 11 6) = omega arith in q
 
--- src/main.rt:86:5
 slice-write-words-4 : tie.Need-slice-write-words-4
 slice-write-words-4 c = search needs
 
--- src/main.rt:77:1
 same-length : tie.Need-same-length
 same-length c = search needs
 
--- src/main.rt:77:1
 returns : tie.Need-returns
 returns c = search needs
 

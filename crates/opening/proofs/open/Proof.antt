@@ -4,35 +4,27 @@ use borrow.Author.Needs.{needs}
 use Rattle.opening.proofs.open.Statement.{statement}
 use Rattle.opening.proofs.open.Tie as tie
 
--- src/lib.rt:145:5
 clear-words-requires : tie.Need-clear-words-requires
 clear-words-requires c κs = search needs
 
--- src/lib.rt:146:17
 sub-write-front : tie.Need-sub-write-front
 sub-write-front c = search needs
 
--- src/lib.rt:146:17
 part-write-front-start : tie.Need-part-write-front-start
 part-write-front-start c = search needs
 
--- src/lib.rt:146:17
 part-write-front-end : tie.Need-part-write-front-end
 part-write-front-end c = let k = front-within (c .before .before .before .before .before .before .args .s) in search needs
 
--- src/lib.rt:146:5
 write-front-requires : tie.Need-write-front-requires
 write-front-requires c κs = search needs
 
--- src/lib.rt:147:5
 write-registers-requires : tie.Need-write-registers-requires
 write-registers-requires c κs = search needs
 
--- src/lib.rt:141:1
 same-length : tie.Need-same-length
 same-length c = search needs
 
--- src/lib.rt:141:1
 returns : tie.Need-returns
 returns c =
     let start = c .before .before .before .before .before .before .before .before .before .before .before .before .before .before in

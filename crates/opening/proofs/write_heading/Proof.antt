@@ -5,31 +5,24 @@ use borrow.Author.Needs.{needs}
 use Rattle.opening.proofs.write_heading.Statement.{statement}
 use Rattle.opening.proofs.write_heading.Tie as tie
 
--- src/lib.rt:84:9
 has-floor-requires : tie.Need-has-floor-requires
 has-floor-requires c κs = search needs
 
--- src/lib.rt:85:9
 floor-of-requires : tie.Need-floor-of-requires
 floor-of-requires c κs = search needs
 
--- src/lib.rt:86:9
 is-pending-requires : tie.Need-is-pending-requires
 is-pending-requires c κs = search needs
 
--- src/lib.rt:113:27
 slice-aggregate-copy-words : tie.Need-slice-aggregate-copy-words
 slice-aggregate-copy-words c = search needs
 
--- src/lib.rt:113:5
 copy-words-requires : tie.Need-copy-words-requires
 copy-words-requires c κs = search needs
 
--- src/lib.rt:80:1
 same-length : tie.Need-same-length
 same-length c = search needs
 
--- src/lib.rt:80:1
 returns : tie.Need-returns
 returns c =
     let b = c .before .before .before .before in

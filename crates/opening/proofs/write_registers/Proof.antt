@@ -13,25 +13,20 @@ Inv-loop run₀ s starts most r₀ run r = Headed s starts run₀ run r
 abbrev μ-loop : tie.MeasureT-loop
 μ-loop run₀ s starts most r₀ run r = most - r
 
--- src/lib.rt:134:5
 loop-holds : tie.Need-loop-holds Inv-loop μ-loop
 loop-holds c =
     let start = c .before .before in
     headed-none (start .args .s) (start .args .starts .now) (start .args .run .now) (registers≤4 (start .args .s) (start .pre .0)) (start .pre .1)
 
--- src/lib.rt:135:9
 write-register-requires : tie.Need-write-register-requires Inv-loop μ-loop
 write-register-requires c κs = search needs
 
--- src/lib.rt:136:9
 add-r : tie.Need-add-r Inv-loop μ-loop
 add-r c = search needs
 
--- src/lib.rt:134:5
 loop-less : tie.Need-loop-less Inv-loop μ-loop
 loop-less c = search needs
 
--- src/lib.rt:134:5
 loop-again : tie.Need-loop-again Inv-loop μ-loop
 loop-again c =
     let start = c .before .before .before .before .before .before .before .before in
@@ -40,11 +35,9 @@ loop-again c =
     headed-more (start .args .s) (start .args .starts .now) (start .args .run .now) (l .run) (l .r) (l .inv) t _ (search needs)
     (c .before .before .write-register .ensures)
 
--- src/lib.rt:128:1
 same-length : tie.Need-same-length Inv-loop μ-loop
 same-length c = search needs
 
--- src/lib.rt:128:1
 returns : tie.Need-returns Inv-loop μ-loop
 returns c =
     let start = c .before .before .before .before in

@@ -8,15 +8,12 @@ use Rattle.restoring.proofs.restore.Tie as tie
 place-of-requires : tie.Need-place-of-requires
 place-of-requires c κs = search needs
 
--- src/lib.rt:35:5
 restore-dump-requires : tie.Need-restore-dump-requires
 restore-dump-requires c κs = search needs
 
--- src/lib.rt:31:1
 same-length : tie.Need-same-length
 same-length c = search needs
 
--- src/lib.rt:31:1
 returns : tie.Need-returns
 returns c = let s = c .before .before .before .before .before .before .before in let a = c .before .before .restore-dump .ensures in (a .0, restore-turns (s .args .s) (s .args .r) (s .pre .0 .1) (dump-at (words-of (s .args .bytes .now))) (s .args .run .now) _ _ (a .1))
 

@@ -9,31 +9,24 @@ use Rattle.restoring.proofs.resume.Tie as tie
 place-of-requires : tie.Need-place-of-requires
 place-of-requires c κs = search needs
 
--- src/lib.rt:43:5
 forget-floor-requires : tie.Need-forget-floor-requires
 forget-floor-requires c κs = search needs
 
--- src/lib.rt:44:9
 restore-dump-requires : tie.Need-restore-dump-requires
 restore-dump-requires c κs = search needs
 
--- src/lib.rt:46:9
 same-length : tie.Need-same-length
 same-length c = search needs
 
--- src/lib.rt:46:9
 returns : tie.Need-returns
 returns c = let s = c .before .before .before .before .before .before .before .before .before .before .before .before in let a = c .before .before .before .restore-dump .ensures in (a .0, resume-plain (s .args .s) (s .args .r) (s .pre .0 .1) (dump-at (words-of (s .args .bytes .now))) (s .args .proven) (s .args .floor) (s .args .run .now) _ _ _ (not-true _ (c .if1 .taken)) (c .before .before .before .before .before .before .before .forget-floor .ensures .1) (a .1))
 
--- src/lib.rt:48:5
 raise-floor-requires : tie.Need-raise-floor-requires
 raise-floor-requires c κs = search needs
 
--- src/lib.rt:39:1
 same-length-2 : tie.Need-same-length-2
 same-length-2 c = search needs
 
--- src/lib.rt:39:1
 returns-2 : tie.Need-returns-2
 returns-2 c = let s = c .before .before .before .before .before .before .before .before .before .before .before .before .before .before .before .before in let a = c .before .before .before .before .before .before .before .restore-dump .ensures in let e = c .before .before .raise-floor .ensures in (e .0, resume-proven (s .args .s) (s .args .r) (s .pre .0 .1) (dump-at (words-of (s .args .bytes .now))) (s .args .proven) (s .args .floor) (s .args .run .now) _ _ _ _ (not-false _ (c .before .before .before .before .if1 .left)) (c .before .before .before .before .before .before .before .before .before .before .before .forget-floor .ensures .1) (a .1) (e .1))
 

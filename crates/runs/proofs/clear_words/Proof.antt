@@ -16,38 +16,30 @@ Inv-loop dst₀ i₀ dst i = (length dst ≡ length dst₀) × (i ≤ length dst
 abbrev μ-loop : tie.MeasureT-loop
 μ-loop dst₀ i₀ dst i = length dst₀ - i
 
--- src/lib.rt:25:5
 loop-holds : tie.Need-loop-holds Inv-loop μ-loop
 loop-holds c = (refl, omega arith, refl)
 
--- src/lib.rt:26:9
 mul-dst : tie.Need-mul-dst Inv-loop μ-loop
 mul-dst c = search needs
 
--- src/lib.rt:26:9
 slice-write-dst : tie.Need-slice-write-dst Inv-loop μ-loop
 slice-write-dst c = search needs
 
--- src/lib.rt:27:9
 add-i : tie.Need-add-i Inv-loop μ-loop
 add-i c = search needs
 
--- src/lib.rt:25:5
 loop-less : tie.Need-loop-less Inv-loop μ-loop
 loop-less c = search needs
 
--- src/lib.rt:25:5
 loop-again : tie.Need-loop-again Inv-loop μ-loop
 loop-again c =
     let l = c .before .loop in
     let ws = c .before .before .args .dst .now in
     (length-set (l .dst) (l .i) 0 ∙ l .inv .0, omega arith, rw (l .inv .2) (fill-more (l .i) 0 ws (omega arith)))
 
--- src/lib.rt:21:1
 same-length : tie.Need-same-length Inv-loop μ-loop
 same-length c = search needs
 
--- src/lib.rt:21:1
 returns : tie.Need-returns Inv-loop μ-loop
 returns c =
     let l = c .before .loop in

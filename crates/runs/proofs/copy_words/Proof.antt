@@ -15,46 +15,36 @@ Inv-loop dst₀ src i₀ dst i = (length dst ≡ length dst₀) × (i ≤ length
 abbrev μ-loop : tie.MeasureT-loop
 μ-loop dst₀ src i₀ dst i = length src - i
 
--- src/lib.rt:53:5
 loop-holds : tie.Need-loop-holds Inv-loop μ-loop
 loop-holds c = (refl, omega arith, refl)
 
--- src/lib.rt:54:18
 mul-dst : tie.Need-mul-dst Inv-loop μ-loop
 mul-dst c = search needs
 
--- src/lib.rt:54:18
 shared-slice-read-dst : tie.Need-shared-slice-read-dst Inv-loop μ-loop
 shared-slice-read-dst c = search needs
 
--- src/lib.rt:54:9
 mul-dst-2 : tie.Need-mul-dst-2 Inv-loop μ-loop
 mul-dst-2 c = search needs
 
--- src/lib.rt:54:9
 slice-write-dst : tie.Need-slice-write-dst Inv-loop μ-loop
 slice-write-dst c = search needs
 
--- src/lib.rt:55:9
 add-i : tie.Need-add-i Inv-loop μ-loop
 add-i c = search needs
 
--- src/lib.rt:53:5
 loop-less : tie.Need-loop-less Inv-loop μ-loop
 loop-less c = search needs
 
--- src/lib.rt:53:5
 loop-again : tie.Need-loop-again Inv-loop μ-loop
 loop-again c =
     let l = c .before .before .loop in
     let src = c .before .before .before .args .src .now in
     (length-set (l .dst) (l .i) _ ∙ l .inv .0, omega arith, copy-on (l .dst) src (l .i) (l .inv .2) (omega arith) (omega arith))
 
--- src/lib.rt:48:1
 same-length : tie.Need-same-length Inv-loop μ-loop
 same-length c = search needs
 
--- src/lib.rt:48:1
 returns : tie.Need-returns Inv-loop μ-loop
 returns c =
     let l = c .before .loop in

@@ -17,46 +17,36 @@ Inv-loop a b all₀ i₀ all i = (i ≤ length a) × ((all && sameWords (drop i 
 abbrev μ-loop : tie.MeasureT-loop
 μ-loop a b all₀ i₀ all i = length a - i
 
--- src/lib.rt:36:9
 returns : tie.Need-returns Inv-loop μ-loop
 returns c = let s = c .before .args in same-long (s .a .now) (s .b .now) (c .if1 .taken)
 
--- src/lib.rt:40:5
 loop-holds : tie.Need-loop-holds Inv-loop μ-loop
 loop-holds c = (omega arith, refl)
 
--- src/lib.rt:41:22
 mul-all : tie.Need-mul-all Inv-loop μ-loop
 mul-all c = search needs
 
--- src/lib.rt:41:22
 shared-slice-read-all : tie.Need-shared-slice-read-all Inv-loop μ-loop
 shared-slice-read-all c = search needs
 
--- src/lib.rt:41:30
 mul-all-2 : tie.Need-mul-all-2 Inv-loop μ-loop
 mul-all-2 c = search needs
 
--- src/lib.rt:41:30
 shared-slice-read-all-2 : tie.Need-shared-slice-read-all-2 Inv-loop μ-loop
 shared-slice-read-all-2 c = search needs
 
--- src/lib.rt:42:9
 add-i : tie.Need-add-i Inv-loop μ-loop
 add-i c = search needs
 
--- src/lib.rt:40:5
 loop-less : tie.Need-loop-less Inv-loop μ-loop
 loop-less c = search needs
 
--- src/lib.rt:40:5
 loop-again : tie.Need-loop-again Inv-loop μ-loop
 loop-again c =
     let l = c .before .before .before .loop in
     let s = c .before .before .before .before .before .args in
     (omega arith, same-on (s .a .now) (s .b .now) (l .i) (l .all) (l .inv .1) (omega arith) (omega arith))
 
--- src/lib.rt:32:1
 returns-2 : tie.Need-returns-2 Inv-loop μ-loop
 returns-2 c =
     let l = c .before .loop in

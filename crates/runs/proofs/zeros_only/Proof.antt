@@ -16,34 +16,27 @@ Inv-loop words all₀ i₀ all i = (i ≤ length words) × ((all && zeros (drop 
 abbrev μ-loop : tie.MeasureT-loop
 μ-loop words all₀ i₀ all i = length words - i
 
--- src/lib.rt:13:5
 loop-holds : tie.Need-loop-holds Inv-loop μ-loop
 loop-holds c = (omega arith, refl)
 
--- src/lib.rt:14:22
 mul-all : tie.Need-mul-all Inv-loop μ-loop
 mul-all c = search needs
 
--- src/lib.rt:14:22
 shared-slice-read-all : tie.Need-shared-slice-read-all Inv-loop μ-loop
 shared-slice-read-all c = search needs
 
--- src/lib.rt:15:9
 add-i : tie.Need-add-i Inv-loop μ-loop
 add-i c = search needs
 
--- src/lib.rt:13:5
 loop-less : tie.Need-loop-less Inv-loop μ-loop
 loop-less c = search needs
 
--- src/lib.rt:13:5
 loop-again : tie.Need-loop-again Inv-loop μ-loop
 loop-again c =
     let l = c .before .before .loop in
     let ws = c .before .before .before .args .words .now in
     (omega arith, zeros-on ws (l .i) (l .all) (l .inv .1) (c .before .loop-test .taken))
 
--- src/lib.rt:8:1
 returns : tie.Need-returns Inv-loop μ-loop
 returns c =
     let l = c .before .loop in

@@ -2,11 +2,9 @@ use borrow.Author.Needs.{needs}
 use Rattle.strikes.proofs.ask_of.Statement.{statement}
 use Rattle.strikes.proofs.ask_of.Tie as tie
 
--- src/lib.rt:54:9
 deliverer-of-requires : tie.Need-deliverer-of-requires
 deliverer-of-requires c κs = search needs
 
--- src/lib.rt:51:1
 returns : tie.Need-returns
 returns c = rw (c .deliverer-of .ensures)
 

@@ -7,50 +7,39 @@ use borrow.Author.Needs.{needs}
 use Rattle.strikes.proofs.begin.Statement.{statement}
 use Rattle.strikes.proofs.begin.Tie as tie
 
--- src/lib.rt:111:9
 admitted-requires : tie.Need-admitted-requires
 admitted-requires c κs = search needs
 
--- src/lib.rt:113:9
 same-length : tie.Need-same-length
 same-length c = search needs
 
--- src/lib.rt:113:9
 returns : tie.Need-returns
 unfolding deed-fits
 returns c = told-refused (c .before .before .before .before .before .args .settings .now) (c .before .before .before .before .before .args .words .now) (c .before .before .before .before .before .args .register) (Begin (c .before .before .before .before .before .args .number)) _ (c .before .admitted .ensures) (c .if1 .taken)
 
--- src/lib.rt:115:9
 place-of-requires : tie.Need-place-of-requires
 unfolding deed-fits
 place-of-requires c κs = let q = enters (c .before .before .before .before .before .args .settings .now) (c .before .before .before .before .before .args .words .now) (c .before .before .before .before .before .args .register) (Begin (c .before .before .before .before .before .args .number)) _ (c .before .admitted .ensures) (c .if1 .left) in (q .fit, q .there)
 
--- src/lib.rt:118:21
 mul-begin : tie.Need-mul-begin
 mul-begin c = search needs
 
--- src/lib.rt:118:21
 sub-begin : tie.Need-sub-begin
 sub-begin c = search needs
 
--- src/lib.rt:118:21
 part-begin-start : tie.Need-part-begin-start
 part-begin-start c = search needs
 
--- src/lib.rt:118:21
 part-begin-end : tie.Need-part-begin-end
 unfolding deed-fits
 part-begin-end c = search (end-within (c .before .before .before .before .before .before .args .settings .now) (c .before .before .before .before .before .before .args .words .now) (c .before .before .before .before .before .before .args .register) (Begin (c .before .before .before .before .before .before .args .number)) _ (c .before .before .admitted .ensures) (c .before .if1 .left) (c .place-of .result) (c .place-of .ensures), needs)
 
--- src/lib.rt:118:5
 begin-requires : tie.Need-begin-requires
 begin-requires c κs = search needs
 
--- src/lib.rt:108:1
 same-length-2 : tie.Need-same-length-2
 same-length-2 c = search needs
 
--- src/lib.rt:108:1
 returns-2 : tie.Need-returns-2
 unfolding deed-fits late-deed done-on
 returns-2 c = told-turned (c .before .before .before .before .before .before .before .before .before .before .args .settings .now) (c .before .before .before .before .before .before .before .before .before .before .args .words .now) (c .before .before .before .before .before .before .before .before .before .before .args .register) (Begin (c .before .before .before .before .before .before .before .before .before .before .args .number)) _ (c .before .before .before .before .before .before .admitted .ensures) (c .before .before .before .before .before .if1 .left) (c .before .before .before .before .place-of .result) (c .before .before .before .before .place-of .ensures) (λ reg. refl) (λ a. a) (λ u. begun (c .before .before .before .before .before .before .before .before .before .before .args .number)) (λ u. begin-says) (λ t. refl) (λ t. refl) _ _ (c .before .before .begin .ensures (c .before .before .before .before .place-of .result .u))

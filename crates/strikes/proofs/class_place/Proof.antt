@@ -5,23 +5,18 @@ use Rattle.model.proofs.Bounds.{fit-shares}
 use Rattle.strikes.proofs.class_place.Statement.{statement}
 use Rattle.strikes.proofs.class_place.Tie as tie
 
--- src/lib.rt:352:9
 settings-of-requires : tie.Need-settings-of-requires
 settings-of-requires c κs = words-fit (c .before .args .settings .now) (c .before .pre) .0
 
--- src/lib.rt:354:9
 class-start-requires : tie.Need-class-start-requires
 class-start-requires c κs = let e = c .before .settings-of .ensures in rw e (words-fit (c .before .before .before .args .settings .now) (c .before .before .before .pre) .1)
 
--- src/lib.rt:355:9
 class-width-requires : tie.Need-class-width-requires
 class-width-requires c κs = let e = c .before .before .settings-of .ensures in rw e (fit-shares _ (words-fit (c .before .before .before .before .args .settings .now) (c .before .before .before .before .pre) .1))
 
--- src/lib.rt:359:14
 add-t7 : tie.Need-add-t7
 add-t7 c = let e = c .before .before .before .settings-of .ensures in let b = rw e at (c .before .class-start .ensures .1) in let w = rw e at (c .class-width .ensures .0) in let m = needed-few _ (words-fit (c .before .before .before .before .before .args .settings .now) (c .before .before .before .before .before .pre) .1) in omega (arith, b, w, m)
 
--- src/lib.rt:348:1
 returns : tie.Need-returns
 returns c = let e = c .before .before .before .settings-of .ensures in let a = c .before .class-start .ensures in let w = c .class-width .ensures in record { shares = rw e; start = rw e at (a .0); end = rw (w .0, e); within = rw (w .0, e) (rw e at (a .1)); few = let m = needed-few _ (words-fit (c .before .before .before .before .before .args .settings .now) (c .before .before .before .before .before .pre) .1) in let b = rw e at (a .1) in let v = rw e at (w .0) in omega (arith, b, v, m) }
 

@@ -10,41 +10,32 @@ use borrow.Author.Needs.{needs}
 use Rattle.strikes.proofs.close.Statement.{statement}
 use Rattle.strikes.proofs.close.Tie as tie
 
--- src/lib.rt:282:9
 vetted-requires : tie.Need-vetted-requires
 vetted-requires c κs = search needs
 
--- src/lib.rt:284:9
 same-length : tie.Need-same-length
 same-length c = search needs
 
--- src/lib.rt:284:9
 returns : tie.Need-returns
 unfolding codes-fit
 returns c = book-refused (c .before .before .before .before .before .args .settings .now) (c .before .before .before .before .before .args .words .now) Close closes _ (c .before .vetted .ensures) (c .if1 .taken)
 
--- src/lib.rt:286:24
 sub-close : tie.Need-sub-close
 sub-close c = search needs
 
--- src/lib.rt:286:24
 part-close-start : tie.Need-part-close-start
 part-close-start c = search needs
 
--- src/lib.rt:286:24
 part-close-end : tie.Need-part-close-end
 unfolding codes-fit
 part-close-end c = search (front-there (c .before .before .before .before .before .args .settings .now) (c .before .before .before .before .before .args .words .now) Close closes _ (c .before .vetted .ensures) (c .if1 .left), needs)
 
--- src/lib.rt:286:5
 close-requires : tie.Need-close-requires
 close-requires c κs = search needs
 
--- src/lib.rt:279:1
 same-length-2 : tie.Need-same-length-2
 same-length-2 c = search needs
 
--- src/lib.rt:279:1
 returns-2 : tie.Need-returns-2
 unfolding codes-fit step closed-book
 returns-2 c = told-front (c .before .before .before .before .before .before .before .before .before .args .settings .now) (c .before .before .before .before .before .before .before .before .before .args .words .now) Close closes _ (c .before .before .before .before .before .vetted .ensures) (c .before .before .before .before .if1 .left) (λ (v : Unit {0}). Done) shut (λ f. tt) (λ t. refl) (λ t. refl) _ _ (c .before .before .close .ensures (settings-of (c .before .before .before .before .before .before .before .before .before .args .settings .now)))

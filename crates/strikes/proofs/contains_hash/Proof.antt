@@ -7,47 +7,37 @@ use borrow.Author.Needs.{needs}
 use Rattle.strikes.proofs.contains_hash.Statement.{statement}
 use Rattle.strikes.proofs.contains_hash.Tie as tie
 
--- src/lib.rt:149:9
 admitted-requires : tie.Need-admitted-requires
 admitted-requires c κs = search needs
 
--- src/lib.rt:151:9
 returns : tie.Need-returns
 unfolding deed-fits
 returns c = read-refused (c .before .before .before .before .args .settings .now) (c .before .before .before .before .args .words .now) (c .before .before .before .before .args .register) (ContainsHash (c .before .before .before .before .args .fp)) _ (c .before .admitted .ensures) (c .if1 .taken)
 
--- src/lib.rt:153:9
 place-of-requires : tie.Need-place-of-requires
 unfolding deed-fits
 place-of-requires c κs = let q = enters (c .before .before .before .before .args .settings .now) (c .before .before .before .before .args .words .now) (c .before .before .before .before .args .register) (ContainsHash (c .before .before .before .before .args .fp)) _ (c .before .admitted .ensures) (c .if1 .left) in (q .fit, q .there)
 
--- src/lib.rt:156:39
 mul-contains-hash : tie.Need-mul-contains-hash
 mul-contains-hash c = search needs
 
--- src/lib.rt:156:39
 sub-contains-hash : tie.Need-sub-contains-hash
 sub-contains-hash c = search needs
 
--- src/lib.rt:156:39
 part-contains-hash-start : tie.Need-part-contains-hash-start
 part-contains-hash-start c = search needs
 
--- src/lib.rt:156:39
 part-contains-hash-end : tie.Need-part-contains-hash-end
 unfolding deed-fits
 part-contains-hash-end c = search (end-within (c .before .before .before .before .before .args .settings .now) (c .before .before .before .before .before .args .words .now) (c .before .before .before .before .before .args .register) (ContainsHash (c .before .before .before .before .before .args .fp)) _ (c .before .before .admitted .ensures) (c .before .if1 .left) (c .place-of .result) (c .place-of .ensures), needs)
 
--- src/lib.rt:156:15
 contains-hash-requires : tie.Need-contains-hash-requires
 unfolding deed-fits
 contains-hash-requires c κs = words-there (c .before .before .before .before .before .before .args .settings .now) (c .before .before .before .before .before .before .args .words .now) (c .before .before .before .before .before .before .args .register) (ContainsHash (c .before .before .before .before .before .before .args .fp)) _ (c .before .before .before .admitted .ensures) (c .before .before .if1 .left) (c .before .place-of .result) (c .before .place-of .ensures)
 
--- src/lib.rt:156:5
 yes-or-no-requires : tie.Need-yes-or-no-requires
 yes-or-no-requires c κs = search needs
 
--- src/lib.rt:146:1
 returns-2 : tie.Need-returns-2
 unfolding deed-fits late-deed done-on
 returns-2 c = c .yes-or-no .ensures ∙ told-read (c .before .before .before .before .before .before .before .before .args .settings .now) (c .before .before .before .before .before .before .before .before .args .words .now) (c .before .before .before .before .before .before .before .before .args .register) (ContainsHash (c .before .before .before .before .before .before .before .before .args .fp)) _ (c .before .before .before .before .before .admitted .ensures) (c .before .before .before .before .if1 .left) (c .before .before .before .place-of .result) (c .before .before .before .place-of .ensures) (λ reg. refl) yes-no (λ u reg. any-class (holds-any (as-read (c .before .before .before .before .before .before .before .before .args .fp))) (reg .rings)) (λ t. refl) _ (c .before .contains-hash .ensures)

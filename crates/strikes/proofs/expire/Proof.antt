@@ -11,52 +11,41 @@ use borrow.Author.Needs.{needs}
 use Rattle.strikes.proofs.expire.Statement.{statement}
 use Rattle.strikes.proofs.expire.Tie as tie
 
--- src/lib.rt:323:9
 vetted-requires : tie.Need-vetted-requires
 vetted-requires c κs = search needs
 
--- src/lib.rt:325:9
 same-length : tie.Need-same-length
 same-length c = search needs
 
--- src/lib.rt:325:9
 returns : tie.Need-returns
 unfolding codes-fit
 returns c = let s = c .before .before .before .before .before in book-refused (s .args .settings .now) (s .args .words .now) (Expire (s .args .reading)) (expires (s .args .reading)) _ (c .before .vetted .ensures) (c .if1 .taken)
 
--- src/lib.rt:327:9
 settings-of-requires : tie.Need-settings-of-requires
 unfolding codes-fit
 settings-of-requires c κs = let s = c .before .before .before .before .before in words-fit (s .args .settings .now) (settings-there (s .args .settings .now) (s .args .words .now) (Expire (s .args .reading)) (expires (s .args .reading)) _ (c .before .vetted .ensures) (c .if1 .left)) .0
 
--- src/lib.rt:328:9
 needed-requires : tie.Need-needed-requires
 unfolding codes-fit
 needed-requires c κs = let s = c .before .before .before .before .before .before in rw (c .settings-of .ensures) (words-fit (s .args .settings .now) (settings-there (s .args .settings .now) (s .args .words .now) (Expire (s .args .reading)) (expires (s .args .reading)) _ (c .before .before .vetted .ensures) (c .before .if1 .left)) .1)
 
--- src/lib.rt:329:22
 sub-expire : tie.Need-sub-expire
 sub-expire c = search needs
 
--- src/lib.rt:329:22
 part-expire-start : tie.Need-part-expire-start
 part-expire-start c = search needs
 
--- src/lib.rt:329:22
 part-expire-end : tie.Need-part-expire-end
 unfolding codes-fit
 part-expire-end c = let s = c .before .before .before .before .before .before .before in search (run-within (s .args .settings .now) (s .args .words .now) (Expire (s .args .reading)) (expires (s .args .reading)) _ (c .before .before .before .vetted .ensures) (c .before .before .if1 .left) (c .needed .result) (rw (c .before .settings-of .ensures) at (c .needed .ensures)), needs)
 
--- src/lib.rt:329:5
 expire-requires : tie.Need-expire-requires
 unfolding codes-fit
 expire-requires c κs = let s = c .before .before .before .before .before .before .before .before in rw (c .before .before .settings-of .ensures) (run-there (s .args .settings .now) (s .args .words .now) (Expire (s .args .reading)) (expires (s .args .reading)) _ (c .before .before .before .before .vetted .ensures) (c .before .before .before .if1 .left) (c .before .needed .result) (rw (c .before .before .settings-of .ensures) at (c .before .needed .ensures)))
 
--- src/lib.rt:320:1
 same-length-2 : tie.Need-same-length-2
 same-length-2 c = search needs
 
--- src/lib.rt:320:1
 returns-2 : tie.Need-returns-2
 unfolding codes-fit step
 returns-2 c = let s = c .before .before .before .before .before .before .before .before .before .before .before in told-run (s .args .settings .now) (s .args .words .now) (Expire (s .args .reading)) (expires (s .args .reading)) _ (c .before .before .before .before .before .before .before .vetted .ensures) (c .before .before .before .before .before .before .if1 .left) (c .before .before .before .before .needed .result) (rw (c .before .before .before .before .before .settings-of .ensures) at (c .before .before .before .before .needed .ensures)) (λ (v : Unit {0}). Done) (λ t. step (settings-of (s .args .settings .now)) (Expire (s .args .reading)) t .state) silent (λ t. refl) (λ t. refl) _ _ (rw (c .before .before .before .before .before .settings-of .ensures) at (c .before .before .expire .ensures))

@@ -5,42 +5,33 @@ use borrow.Author.Needs.{needs}
 use Rattle.strikes.proofs.floor.Statement.{statement}
 use Rattle.strikes.proofs.floor.Tie as tie
 
--- src/lib.rt:163:9
 admitted-requires : tie.Need-admitted-requires
 admitted-requires c κs = search needs
 
--- src/lib.rt:165:9
 returns : tie.Need-returns
 unfolding deed-fits
 returns c = read-refused (c .before .before .before .before .args .settings .now) (c .before .before .before .before .args .words .now) (c .before .before .before .before .args .register) Floor _ (c .before .admitted .ensures) (c .if1 .taken)
 
--- src/lib.rt:167:9
 place-of-requires : tie.Need-place-of-requires
 unfolding deed-fits
 place-of-requires c κs = let q = enters (c .before .before .before .before .args .settings .now) (c .before .before .before .before .args .words .now) (c .before .before .before .before .args .register) Floor _ (c .before .admitted .ensures) (c .if1 .left) in (q .fit, q .there)
 
--- src/lib.rt:170:21
 mul-floor : tie.Need-mul-floor
 mul-floor c = search needs
 
--- src/lib.rt:170:21
 sub-floor : tie.Need-sub-floor
 sub-floor c = search needs
 
--- src/lib.rt:170:21
 part-floor-start : tie.Need-part-floor-start
 part-floor-start c = search needs
 
--- src/lib.rt:170:21
 part-floor-end : tie.Need-part-floor-end
 unfolding deed-fits
 part-floor-end c = search (end-within (c .before .before .before .before .before .args .settings .now) (c .before .before .before .before .before .args .words .now) (c .before .before .before .before .before .args .register) Floor _ (c .before .before .admitted .ensures) (c .before .if1 .left) (c .place-of .result) (c .place-of .ensures), needs)
 
--- src/lib.rt:170:5
 floor-requires : tie.Need-floor-requires
 floor-requires c κs = search needs
 
--- src/lib.rt:160:1
 returns-2 : tie.Need-returns-2
 unfolding deed-fits late-deed done-on
 returns-2 c = told-read (c .before .before .before .before .before .before .before .args .settings .now) (c .before .before .before .before .before .before .before .args .words .now) (c .before .before .before .before .before .before .before .args .register) Floor _ (c .before .before .before .before .admitted .ensures) (c .before .before .before .if1 .left) (c .before .before .place-of .result) (c .before .before .place-of .ensures) (λ reg. refl) (λ a. a) (λ u reg. floor-answer (reg .floor)) (λ t. refl) _ (c .floor .ensures (c .before .before .place-of .result .u))

@@ -1,6 +1,5 @@
 use Rattle.model.specs.declared.Answer.the-variants.{Entries}
 use Rattle.model.specs.Book.{entries-of}
-use Rattle.model.specs.Class.{class-of}
 use Rattle.model.specs.Calls.{HeldBy, codes-fit, step}
 use Rattle.strikes.proofs.Admitting.{holds}
 use Rattle.strikes.proofs.OnClass.{read-refused-book, settings-there, span-within, class-lies, told-class}
@@ -8,55 +7,43 @@ use borrow.Author.Needs.{needs}
 use Rattle.strikes.proofs.held.Statement.{statement}
 use Rattle.strikes.proofs.held.Tie as tie
 
--- src/lib.rt:367:9
 deliverer-fits-requires : tie.Need-deliverer-fits-requires
 deliverer-fits-requires c κs = search needs
 
--- src/lib.rt:368:9
 vetted-requires : tie.Need-vetted-requires
 vetted-requires c κs = search needs
 
--- src/lib.rt:370:9
 returns : tie.Need-returns
 unfolding codes-fit
 returns c = read-refused-book (c .before .before .before .before .before .args .settings .now) (c .before .before .before .before .before .args .words .now) (HeldBy (c .before .before .before .before .before .args .kind) (c .before .before .before .before .before .args .number)) (holds (c .before .before .before .before .before .args .kind) (c .before .before .before .before .before .args .number)) _ (rw (c .before .before .deliverer-fits .ensures) at (c .before .vetted .ensures)) (c .if1 .taken)
 
--- src/lib.rt:372:9
 deliverer-of-requires : tie.Need-deliverer-of-requires
 deliverer-of-requires c κs = search needs
 
--- src/lib.rt:373:36
 class-of-requires : tie.Need-class-of-requires
 class-of-requires c κs = search needs
 
--- src/lib.rt:373:9
 class-place-requires : tie.Need-class-place-requires
 unfolding codes-fit
 class-place-requires c κs = settings-there (c .before .before .before .before .before .before .before .args .settings .now) (c .before .before .before .before .before .before .before .args .words .now) (HeldBy (c .before .before .before .before .before .before .before .args .kind) (c .before .before .before .before .before .before .before .args .number)) (holds (c .before .before .before .before .before .before .before .args .kind) (c .before .before .before .before .before .before .before .args .number)) _ (rw (c .before .before .before .before .deliverer-fits .ensures) at (c .before .before .before .vetted .ensures)) (c .before .before .if1 .left)
 
--- src/lib.rt:376:35
 mul-held-by : tie.Need-mul-held-by
 mul-held-by c = search needs
 
--- src/lib.rt:376:35
 sub-held-by : tie.Need-sub-held-by
 sub-held-by c = search needs
 
--- src/lib.rt:376:35
 part-held-by-start : tie.Need-part-held-by-start
 part-held-by-start c = search needs
 
--- src/lib.rt:376:35
 part-held-by-end : tie.Need-part-held-by-end
 unfolding codes-fit
 part-held-by-end c = search (span-within (c .before .before .before .before .before .before .before .before .args .settings .now) (c .before .before .before .before .before .before .before .before .args .words .now) (HeldBy (c .before .before .before .before .before .before .before .before .args .kind) (c .before .before .before .before .before .before .before .before .args .number)) (holds (c .before .before .before .before .before .before .before .before .args .kind) (c .before .before .before .before .before .before .before .before .args .number)) _ (rw (c .before .before .before .before .before .deliverer-fits .ensures) at (c .before .before .before .before .vetted .ensures)) (c .before .before .before .if1 .left) _ (c .class-place .result) (rw (c .before .class-of .ensures) at (c .class-place .ensures)), needs)
 
--- src/lib.rt:376:21
 held-by-requires : tie.Need-held-by-requires
 unfolding codes-fit
 held-by-requires c κs = class-lies (c .before .before .before .before .before .before .before .before .before .args .settings .now) (c .before .before .before .before .before .before .before .before .before .args .words .now) (HeldBy (c .before .before .before .before .before .before .before .before .before .args .kind) (c .before .before .before .before .before .before .before .before .before .args .number)) (holds (c .before .before .before .before .before .before .before .before .before .args .kind) (c .before .before .before .before .before .before .before .before .before .args .number)) _ (rw (c .before .before .before .before .before .before .deliverer-fits .ensures) at (c .before .before .before .before .before .vetted .ensures)) (c .before .before .before .before .if1 .left) _ (c .before .class-place .result) (rw (c .before .before .class-of .ensures) at (c .before .class-place .ensures))
 
--- src/lib.rt:364:1
 returns-2 : tie.Need-returns-2
 unfolding codes-fit step
 returns-2 c = let d = (c .before .before .before .before .deliverer-of .ensures) in told-class (c .before .before .before .before .before .before .before .before .before .before .args .settings .now) (c .before .before .before .before .before .before .before .before .before .before .args .words .now) (HeldBy (c .before .before .before .before .before .before .before .before .before .before .args .kind) (c .before .before .before .before .before .before .before .before .before .before .args .number)) (holds (c .before .before .before .before .before .before .before .before .before .before .args .kind) (c .before .before .before .before .before .before .before .before .before .before .args .number)) _ (rw (c .before .before .before .before .before .before .before .deliverer-fits .ensures) at (c .before .before .before .before .before .before .vetted .ensures)) (c .before .before .before .before .before .if1 .left) _ (c .before .before .class-place .result) (rw (c .before .before .before .class-of .ensures) at (c .before .before .class-place .ensures)) Entries (λ x h. entries-of (c .before .before .before .before .deliverer-of .result) (h .places)) (λ t. rw d) _ (c .held-by .ensures)

@@ -7,68 +7,55 @@ use borrow.Author.Needs.{needs}
 use Rattle.strikes.proofs.judge_batch.Statement.{statement}
 use Rattle.strikes.proofs.judge_batch.Tie as tie
 
--- src/lib.rt:94:9
-ticket-codes-requires : tie.Need-ticket-codes-requires
-ticket-codes-requires c κs = search needs
+ticket-fits-requires : tie.Need-ticket-fits-requires
+ticket-fits-requires c κs = search needs
 
--- src/lib.rt:95:9
 admitted-requires : tie.Need-admitted-requires
 admitted-requires c κs = search needs
 
--- src/lib.rt:97:9
 same-length : tie.Need-same-length
 same-length c = search needs
 
--- src/lib.rt:97:9
 returns : tie.Need-returns
 unfolding deed-fits
-returns c = told-refused (c .before .before .before .before .before .before .args .settings .now) (c .before .before .before .before .before .before .args .words .now) (c .before .before .before .before .before .before .args .register) (Ticket judged-batch (record { fp = c .before .before .before .before .before .before .args .fp; stamp = c .before .before .before .before .before .before .args .stamp; ms = c .before .before .before .before .before .before .args .reading; flag = c .before .before .before .before .before .before .args .flag; kind = c .before .before .before .before .before .before .args .kind; number = c .before .before .before .before .before .before .args .number })) _ (rw (c .before .before .before .ticket-codes .ensures) at (c .before .admitted .ensures)) (c .if1 .taken)
+returns c = told-refused (c .before .before .before .before .before .before .args .settings .now) (c .before .before .before .before .before .before .args .words .now) (c .before .before .before .before .before .before .args .register) (Ticket judged-batch (record { fp = c .before .before .before .before .before .before .args .fp; stamp = c .before .before .before .before .before .before .args .stamp; ms = c .before .before .before .before .before .before .args .reading; flag = c .before .before .before .before .before .before .args .flag; kind = c .before .before .before .before .before .before .args .kind; number = c .before .before .before .before .before .before .args .number })) _ (rw (c .before .before .before .ticket-fits .ensures) at (c .before .admitted .ensures)) (c .if1 .taken)
 
--- src/lib.rt:99:9
 place-of-requires : tie.Need-place-of-requires
 unfolding deed-fits
-place-of-requires c κs = let q = enters (c .before .before .before .before .before .before .args .settings .now) (c .before .before .before .before .before .before .args .words .now) (c .before .before .before .before .before .before .args .register) (Ticket judged-batch (record { fp = c .before .before .before .before .before .before .args .fp; stamp = c .before .before .before .before .before .before .args .stamp; ms = c .before .before .before .before .before .before .args .reading; flag = c .before .before .before .before .before .before .args .flag; kind = c .before .before .before .before .before .before .args .kind; number = c .before .before .before .before .before .before .args .number })) _ (rw (c .before .before .before .ticket-codes .ensures) at (c .before .admitted .ensures)) (c .if1 .left) in (q .fit, q .there)
+place-of-requires c κs = let q = enters (c .before .before .before .before .before .before .args .settings .now) (c .before .before .before .before .before .before .args .words .now) (c .before .before .before .before .before .before .args .register) (Ticket judged-batch (record { fp = c .before .before .before .before .before .before .args .fp; stamp = c .before .before .before .before .before .before .args .stamp; ms = c .before .before .before .before .before .before .args .reading; flag = c .before .before .before .before .before .before .args .flag; kind = c .before .before .before .before .before .before .args .kind; number = c .before .before .before .before .before .before .args .number })) _ (rw (c .before .before .before .ticket-fits .ensures) at (c .before .admitted .ensures)) (c .if1 .left) in (q .fit, q .there)
 
--- src/lib.rt:100:9
 ask-of-requires : tie.Need-ask-of-requires
 ask-of-requires c κs = search needs
 
--- src/lib.rt:103:41
 mul-judge-batch : tie.Need-mul-judge-batch
 mul-judge-batch c = search needs
 
--- src/lib.rt:103:41
 sub-judge-batch : tie.Need-sub-judge-batch
 sub-judge-batch c = search needs
 
--- src/lib.rt:103:41
 part-judge-batch-start : tie.Need-part-judge-batch-start
 part-judge-batch-start c = search needs
 
--- src/lib.rt:103:41
 part-judge-batch-end : tie.Need-part-judge-batch-end
 unfolding deed-fits
-part-judge-batch-end c = search (end-within (c .before .before .before .before .before .before .before .before .args .settings .now) (c .before .before .before .before .before .before .before .before .args .words .now) (c .before .before .before .before .before .before .before .before .args .register) (Ticket judged-batch (record { fp = c .before .before .before .before .before .before .before .before .args .fp; stamp = c .before .before .before .before .before .before .before .before .args .stamp; ms = c .before .before .before .before .before .before .before .before .args .reading; flag = c .before .before .before .before .before .before .before .before .args .flag; kind = c .before .before .before .before .before .before .before .before .args .kind; number = c .before .before .before .before .before .before .before .before .args .number })) _ (rw (c .before .before .before .before .before .ticket-codes .ensures) at (c .before .before .before .admitted .ensures)) (c .before .before .if1 .left) (c .before .place-of .result) (c .before .place-of .ensures), needs)
+part-judge-batch-end c = search (end-within (c .before .before .before .before .before .before .before .before .args .settings .now) (c .before .before .before .before .before .before .before .before .args .words .now) (c .before .before .before .before .before .before .before .before .args .register) (Ticket judged-batch (record { fp = c .before .before .before .before .before .before .before .before .args .fp; stamp = c .before .before .before .before .before .before .before .before .args .stamp; ms = c .before .before .before .before .before .before .before .before .args .reading; flag = c .before .before .before .before .before .before .before .before .args .flag; kind = c .before .before .before .before .before .before .before .before .args .kind; number = c .before .before .before .before .before .before .before .before .args .number })) _ (rw (c .before .before .before .before .before .ticket-fits .ensures) at (c .before .before .before .admitted .ensures)) (c .before .before .if1 .left) (c .before .place-of .result) (c .before .place-of .ensures), needs)
 
--- src/lib.rt:103:9
 judge-batch-requires : tie.Need-judge-batch-requires
 unfolding deed-fits
-judge-batch-requires c κs = words-there (c .before .before .before .before .before .before .before .before .before .args .settings .now) (c .before .before .before .before .before .before .before .before .before .args .words .now) (c .before .before .before .before .before .before .before .before .before .args .register) (Ticket judged-batch (record { fp = c .before .before .before .before .before .before .before .before .before .args .fp; stamp = c .before .before .before .before .before .before .before .before .before .args .stamp; ms = c .before .before .before .before .before .before .before .before .before .args .reading; flag = c .before .before .before .before .before .before .before .before .before .args .flag; kind = c .before .before .before .before .before .before .before .before .before .args .kind; number = c .before .before .before .before .before .before .before .before .before .args .number })) _ (rw (c .before .before .before .before .before .before .ticket-codes .ensures) at (c .before .before .before .before .admitted .ensures)) (c .before .before .before .if1 .left) (c .before .before .place-of .result) (c .before .before .place-of .ensures)
+judge-batch-requires c κs = words-there (c .before .before .before .before .before .before .before .before .before .args .settings .now) (c .before .before .before .before .before .before .before .before .before .args .words .now) (c .before .before .before .before .before .before .before .before .before .args .register) (Ticket judged-batch (record { fp = c .before .before .before .before .before .before .before .before .before .args .fp; stamp = c .before .before .before .before .before .before .before .before .before .args .stamp; ms = c .before .before .before .before .before .before .before .before .before .args .reading; flag = c .before .before .before .before .before .before .before .before .before .args .flag; kind = c .before .before .before .before .before .before .before .before .before .args .kind; number = c .before .before .before .before .before .before .before .before .before .args .number })) _ (rw (c .before .before .before .before .before .before .ticket-fits .ensures) at (c .before .before .before .before .admitted .ensures)) (c .before .before .before .if1 .left) (c .before .before .place-of .result) (c .before .before .place-of .ensures)
 
--- src/lib.rt:91:1
 same-length-2 : tie.Need-same-length-2
 same-length-2 c = search needs
 
--- src/lib.rt:91:1
 returns-2 : tie.Need-returns-2
 unfolding deed-fits late-deed done-on asked after-judged
-returns-2 c = told-turned (c .before .before .before .before .before .before .before .before .before .before .before .before .args .settings .now) (c .before .before .before .before .before .before .before .before .before .before .before .before .args .words .now) (c .before .before .before .before .before .before .before .before .before .before .before .before .args .register) (Ticket judged-batch (record { fp = c .before .before .before .before .before .before .before .before .before .before .before .before .args .fp; stamp = c .before .before .before .before .before .before .before .before .before .before .before .before .args .stamp; ms = c .before .before .before .before .before .before .before .before .before .before .before .before .args .reading; flag = c .before .before .before .before .before .before .before .before .before .before .before .before .args .flag; kind = c .before .before .before .before .before .before .before .before .before .before .before .before .args .kind; number = c .before .before .before .before .before .before .before .before .before .before .before .before .args .number })) _ (rw (c .before .before .before .before .before .before .before .before .before .ticket-codes .ensures) at (c .before .before .before .before .before .before .before .admitted .ensures)) (c .before .before .before .before .before .before .if1 .left) (c .before .before .before .before .before .place-of .result) (c .before .before .before .before .before .place-of .ensures) (λ reg. refl) Said (λ u. batch-register u (asked-by (c .before .before .before .before .ask-of .result))) (λ u. batch-says u (asked-by (c .before .before .before .before .ask-of .result))) (λ t. rw (c .before .before .before .before .ask-of .ensures)) (λ t. rw (c .before .before .before .before .ask-of .ensures)) _ _ (c .before .before .judge-batch .ensures .1)
+returns-2 c = told-turned (c .before .before .before .before .before .before .before .before .before .before .before .before .args .settings .now) (c .before .before .before .before .before .before .before .before .before .before .before .before .args .words .now) (c .before .before .before .before .before .before .before .before .before .before .before .before .args .register) (Ticket judged-batch (record { fp = c .before .before .before .before .before .before .before .before .before .before .before .before .args .fp; stamp = c .before .before .before .before .before .before .before .before .before .before .before .before .args .stamp; ms = c .before .before .before .before .before .before .before .before .before .before .before .before .args .reading; flag = c .before .before .before .before .before .before .before .before .before .before .before .before .args .flag; kind = c .before .before .before .before .before .before .before .before .before .before .before .before .args .kind; number = c .before .before .before .before .before .before .before .before .before .before .before .before .args .number })) _ (rw (c .before .before .before .before .before .before .before .before .before .ticket-fits .ensures) at (c .before .before .before .before .before .before .before .admitted .ensures)) (c .before .before .before .before .before .before .if1 .left) (c .before .before .before .before .before .place-of .result) (c .before .before .before .before .before .place-of .ensures) (λ reg. refl) Said (λ u. batch-register u (asked-by (c .before .before .before .before .ask-of .result))) (λ u. batch-says u (asked-by (c .before .before .before .before .ask-of .result))) (λ t. rw (c .before .before .before .before .ask-of .ensures)) (λ t. rw (c .before .before .before .before .ask-of .ensures)) _ _ (c .before .before .judge-batch .ensures .1)
 
 pub judge-batch-spec : {M : Type 1} → statement M
 judge-batch-spec =
     tie.close
     (tie.spec
-    ticket-codes-requires
+    ticket-fits-requires
     admitted-requires
     same-length
     returns

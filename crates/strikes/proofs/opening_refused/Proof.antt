@@ -7,39 +7,30 @@ use borrow.Author.Needs.{needs}
 use Rattle.strikes.proofs.opening_refused.Statement.{statement}
 use Rattle.strikes.proofs.opening_refused.Tie as tie
 
--- src/lib.rt:317:9
 settings-fit-requires : tie.Need-settings-fit-requires
 settings-fit-requires c κs = search needs
 
--- src/lib.rt:318:9
 returns : tie.Need-returns
 returns c = opens-unfit (c .before .before .before .before .before .args .settings .now) (c .before .before .before .before .before .args .limits .now) (c .before .before .before .before .before .args .starts .now) (c .before .before .before .before .before .args .words) (sym (c .before .settings-fit .ensures) ∙ not-true _ (c .if1 .taken))
 
--- src/lib.rt:320:9
 settings-of-requires : tie.Need-settings-of-requires
 settings-of-requires c κs = words-fit (c .before .before .before .before .before .args .settings .now) (sym (c .before .settings-fit .ensures) ∙ not-false _ (c .if1 .left)) .0
 
--- src/lib.rt:321:9
 limits-fit-requires : tie.Need-limits-fit-requires
 limits-fit-requires c κs = search needs
 
--- src/lib.rt:322:9
 starts-fit-requires : tie.Need-starts-fit-requires
 starts-fit-requires c κs = search needs
 
--- src/lib.rt:324:9
 returns-2 : tie.Need-returns-2
 returns-2 c = opens-unlisted (c .before .before .before .before .before .before .before .before .before .args .settings .now) (c .before .before .before .before .before .before .before .before .before .args .limits .now) (c .before .before .before .before .before .before .before .before .before .args .starts .now) (c .before .before .before .before .before .before .before .before .before .args .words) (sym (c .before .before .before .before .before .settings-fit .ensures) ∙ not-false _ (c .before .before .before .before .if1 .left)) (rw (c .before .before .limits-fit .ensures, c .before .starts-fit .ensures, (c .before .before .before .settings-of .ensures)) at (not-true (c .before .before .limits-fit .result && c .before .starts-fit .result) (c .if2 .taken)))
 
--- src/lib.rt:326:8
 too-short-requires : tie.Need-too-short-requires
 too-short-requires c κs = rw (c .before .before .before .settings-of .ensures) (words-fit (c .before .before .before .before .before .before .before .before .before .args .settings .now) (sym (c .before .before .before .before .before .settings-fit .ensures) ∙ not-false _ (c .before .before .before .before .if1 .left)) .1)
 
--- src/lib.rt:327:9
 returns-3 : tie.Need-returns-3
 returns-3 c = opens-short (c .before .before .before .before .before .before .before .before .before .before .before .args .settings .now) (c .before .before .before .before .before .before .before .before .before .before .before .args .limits .now) (c .before .before .before .before .before .before .before .before .before .before .before .args .starts .now) (c .before .before .before .before .before .before .before .before .before .before .before .args .words) (sym (c .before .before .before .before .before .before .before .settings-fit .ensures) ∙ not-false _ (c .before .before .before .before .before .before .if1 .left)) (rw (c .before .before .before .before .limits-fit .ensures, c .before .before .before .starts-fit .ensures, (c .before .before .before .before .before .settings-of .ensures)) at (not-false (c .before .before .before .before .limits-fit .result && c .before .before .before .starts-fit .result) (c .before .before .if2 .left))) (rw (c .before .before .before .before .before .settings-of .ensures) at (sym (c .before .too-short .ensures) ∙ c .if3 .taken))
 
--- src/lib.rt:314:1
 returns-4 : tie.Need-returns-4
 returns-4 c = opens-all (c .before .before .before .before .before .before .before .before .before .before .before .args .settings .now) (c .before .before .before .before .before .before .before .before .before .before .before .args .limits .now) (c .before .before .before .before .before .before .before .before .before .before .before .args .starts .now) (c .before .before .before .before .before .before .before .before .before .before .before .args .words) (sym (c .before .before .before .before .before .before .before .settings-fit .ensures) ∙ not-false _ (c .before .before .before .before .before .before .if1 .left)) (rw (c .before .before .before .before .limits-fit .ensures, c .before .before .before .starts-fit .ensures, (c .before .before .before .before .before .settings-of .ensures)) at (not-false (c .before .before .before .before .limits-fit .result && c .before .before .before .starts-fit .result) (c .before .before .if2 .left))) (rw (c .before .before .before .before .before .settings-of .ensures) at (sym (c .before .too-short .ensures) ∙ c .if3 .left))
 

@@ -5,46 +5,36 @@ use borrow.Author.Needs.{needs}
 use Rattle.strikes.proofs.pending.Statement.{statement}
 use Rattle.strikes.proofs.pending.Tie as tie
 
--- src/lib.rt:177:9
 admitted-requires : tie.Need-admitted-requires
 admitted-requires c κs = search needs
 
--- src/lib.rt:179:9
 returns : tie.Need-returns
 unfolding deed-fits
 returns c = read-refused (c .before .before .before .before .args .settings .now) (c .before .before .before .before .args .words .now) (c .before .before .before .before .args .register) Pending _ (c .before .admitted .ensures) (c .if1 .taken)
 
--- src/lib.rt:181:9
 place-of-requires : tie.Need-place-of-requires
 unfolding deed-fits
 place-of-requires c κs = let q = enters (c .before .before .before .before .args .settings .now) (c .before .before .before .before .args .words .now) (c .before .before .before .before .args .register) Pending _ (c .before .admitted .ensures) (c .if1 .left) in (q .fit, q .there)
 
--- src/lib.rt:184:36
 mul-is-pending : tie.Need-mul-is-pending
 mul-is-pending c = search needs
 
--- src/lib.rt:184:36
 sub-is-pending : tie.Need-sub-is-pending
 sub-is-pending c = search needs
 
--- src/lib.rt:184:36
 part-is-pending-start : tie.Need-part-is-pending-start
 part-is-pending-start c = search needs
 
--- src/lib.rt:184:36
 part-is-pending-end : tie.Need-part-is-pending-end
 unfolding deed-fits
 part-is-pending-end c = search (end-within (c .before .before .before .before .before .args .settings .now) (c .before .before .before .before .before .args .words .now) (c .before .before .before .before .before .args .register) Pending _ (c .before .before .admitted .ensures) (c .before .if1 .left) (c .place-of .result) (c .place-of .ensures), needs)
 
--- src/lib.rt:184:15
 is-pending-requires : tie.Need-is-pending-requires
 is-pending-requires c κs = search needs
 
--- src/lib.rt:184:5
 yes-or-no-requires : tie.Need-yes-or-no-requires
 yes-or-no-requires c κs = search needs
 
--- src/lib.rt:174:1
 returns-2 : tie.Need-returns-2
 unfolding deed-fits late-deed done-on
 returns-2 c = c .yes-or-no .ensures ∙ told-read (c .before .before .before .before .before .before .before .before .args .settings .now) (c .before .before .before .before .before .before .before .before .args .words .now) (c .before .before .before .before .before .before .before .before .args .register) Pending _ (c .before .before .before .before .before .admitted .ensures) (c .before .before .before .before .if1 .left) (c .before .before .before .place-of .result) (c .before .before .before .place-of .ensures) (λ reg. refl) yes-no (λ u reg. reg .pending) (λ t. refl) _ (c .before .is-pending .ensures (c .before .before .before .place-of .result .u))

@@ -14,82 +14,64 @@ use borrow.Author.Needs.{needs}
 use Rattle.strikes.proofs.restore.Statement.{statement}
 use Rattle.strikes.proofs.restore.Tie as tie
 
--- src/lib.rt:465:9
 admitted-requires : tie.Need-admitted-requires
 admitted-requires c κs = search needs
 
--- src/lib.rt:467:9
 same-length : tie.Need-same-length
 same-length c = search needs
 
--- src/lib.rt:467:9
 returns : tie.Need-returns
 unfolding deed-fits late-deed
 returns c = told-refused (c .before .before .before .before .before .before .args .settings .now) (c .before .before .before .before .before .before .args .words .now) (c .before .before .before .before .before .before .args .register) (Restore (c .before .before .before .before .before .before .args .bytes .now)) _ (c .before .admitted .ensures) (c .if1 .taken)
 
--- src/lib.rt:469:31
 read-lengths-requires : tie.Need-read-lengths-requires
 read-lengths-requires c κs = search needs
 
--- src/lib.rt:469:23
 enum-known-long : tie.Need-enum-known-long
 enum-known-long c = search needs
 
--- src/lib.rt:470:9
 enum-told : tie.Need-enum-told
 enum-told c = search needs
 
--- src/lib.rt:470:9
 same-length-2 : tie.Need-same-length-2
 same-length-2 c = search needs
 
--- src/lib.rt:470:9
 returns-2 : tie.Need-returns-2
 unfolding deed-fits late-deed
 returns-2 c = told-cut (c .before .before .before .before .before .before .before .before .before .args .settings .now) (c .before .before .before .before .before .before .before .before .before .args .words .now) (c .before .before .before .before .before .before .before .before .before .args .bytes .now) (c .before .before .before .before .before .before .before .before .before .args .register) (Restore (c .before .before .before .before .before .before .before .before .before .args .bytes .now)) _ (c .before .before .before .before .admitted .ensures) (c .before .before .before .if1 .left) (λ reg. refl) (sym (c .enum-told .given .1) ∙ c .before .before .read-lengths .ensures)
 
--- src/lib.rt:472:9
 settings-of-requires : tie.Need-settings-of-requires
 unfolding deed-fits late-deed
 settings-of-requires c κs = words-fit (c .before .before .before .before .before .before .before .before .before .before .args .settings .now) (enters (c .before .before .before .before .before .before .before .before .before .before .args .settings .now) (c .before .before .before .before .before .before .before .before .before .before .args .words .now) (c .before .before .before .before .before .before .before .before .before .before .args .register) (Restore (c .before .before .before .before .before .before .before .before .before .before .args .bytes .now)) _ (c .before .before .before .before .before .admitted .ensures) (c .before .before .before .before .if1 .left) .fit) .0
 
--- src/lib.rt:473:9
 needed-requires : tie.Need-needed-requires
 unfolding deed-fits late-deed
 needed-requires c κs = rw (c .settings-of .ensures) (words-fit (c .before .before .before .before .before .before .before .before .before .before .before .args .settings .now) (enters (c .before .before .before .before .before .before .before .before .before .before .before .args .settings .now) (c .before .before .before .before .before .before .before .before .before .before .before .args .words .now) (c .before .before .before .before .before .before .before .before .before .before .before .args .register) (Restore (c .before .before .before .before .before .before .before .before .before .before .before .args .bytes .now)) _ (c .before .before .before .before .before .before .admitted .ensures) (c .before .before .before .before .before .if1 .left) .fit) .1)
 
--- src/lib.rt:475:36
 sub-restore : tie.Need-sub-restore
 sub-restore c = search needs
 
--- src/lib.rt:475:36
 part-restore-start : tie.Need-part-restore-start
 part-restore-start c = search needs
 
--- src/lib.rt:475:36
 part-restore-end : tie.Need-part-restore-end
 unfolding deed-fits late-deed
 part-restore-end c = search (whole-within (c .before .before .before .before .before .before .before .before .before .before .before .before .args .settings .now) (c .before .before .before .before .before .before .before .before .before .before .before .before .args .words .now) (c .before .before .before .before .before .before .before .before .before .before .before .before .args .register) (Restore (c .before .before .before .before .before .before .before .before .before .before .before .before .args .bytes .now)) _ (c .before .before .before .before .before .before .before .admitted .ensures) (c .before .before .before .before .before .before .if1 .left) (not-cut (c .before .before .before .before .before .before .before .before .before .before .before .before .args .bytes .now) _ (sym (c .before .before .before .long .given .1) ∙ c .before .before .before .before .before .read-lengths .ensures) (Restore (c .before .before .before .before .before .before .before .before .before .before .before .before .args .bytes .now)) (λ reg. refl) (c .before .before .before .before .before .before .before .before .before .before .before .before .args .register)) _ (rw (c .before .settings-of .ensures) at (c .needed .ensures)), needs)
 
--- src/lib.rt:475:9
 restore-requires : tie.Need-restore-requires
 unfolding deed-fits late-deed
 restore-requires c κs = (rw (c .before .before .settings-of .ensures) (whole-lies (c .before .before .before .before .before .before .before .before .before .before .before .before .before .args .settings .now) (c .before .before .before .before .before .before .before .before .before .before .before .before .before .args .words .now) (c .before .before .before .before .before .before .before .before .before .before .before .before .before .args .register) (Restore (c .before .before .before .before .before .before .before .before .before .before .before .before .before .args .bytes .now)) _ (c .before .before .before .before .before .before .before .before .admitted .ensures) (c .before .before .before .before .before .before .before .if1 .left) (not-cut (c .before .before .before .before .before .before .before .before .before .before .before .before .before .args .bytes .now) _ (sym (c .before .before .before .before .long .given .1) ∙ c .before .before .before .before .before .before .read-lengths .ensures) (Restore (c .before .before .before .before .before .before .before .before .before .before .before .before .before .args .bytes .now)) (λ reg. refl) (c .before .before .before .before .before .before .before .before .before .before .before .before .before .args .register)) _ (rw (c .before .before .settings-of .ensures) at (c .before .needed .ensures))), whole-dump (c .before .before .before .before .before .before .before .before .before .before .before .before .before .args .bytes .now) _ (sym (c .before .before .before .before .long .given .1) ∙ c .before .before .before .before .before .before .read-lengths .ensures))
 
--- src/lib.rt:476:26
 mul-told-restored : tie.Need-mul-told-restored
 unfolding deed-fits late-deed
 mul-told-restored c = search (within-bytes (c .before .before .before .before .before .before .before .before .before .before .before .before .before .before .before .before .args .bytes .now) _ (sym (c .before .before .before .before .before .before .before .long .given .1) ∙ c .before .before .before .before .before .before .before .before .before .read-lengths .ensures), c .before .before .before .before .before .before .before .before .before .before .before .before .before .before .before .before .good, needs)
 
--- src/lib.rt:476:5
 told-restored-requires : tie.Need-told-restored-requires
 told-restored-requires c κs = search needs
 
--- src/lib.rt:462:1
 same-length-3 : tie.Need-same-length-3
 same-length-3 c = search needs
 
--- src/lib.rt:462:1
 returns-3 : tie.Need-returns-3
 unfolding deed-fits late-deed
 returns-3 c = rw (c .told-restored .ensures) (told-whole (c .before .before .before .before .before .before .before .before .before .before .before .before .before .before .before .before .before .args .settings .now) (c .before .before .before .before .before .before .before .before .before .before .before .before .before .before .before .before .before .args .words .now) (c .before .before .before .before .before .before .before .before .before .before .before .before .before .before .before .before .before .args .register) (Restore (c .before .before .before .before .before .before .before .before .before .before .before .before .before .before .before .before .before .args .bytes .now)) _ (c .before .before .before .before .before .before .before .before .before .before .before .before .admitted .ensures) (c .before .before .before .before .before .before .before .before .before .before .before .if1 .left) (not-cut (c .before .before .before .before .before .before .before .before .before .before .before .before .before .before .before .before .before .args .bytes .now) _ (sym (c .before .before .before .before .before .before .before .before .long .given .1) ∙ c .before .before .before .before .before .before .before .before .before .before .read-lengths .ensures) (Restore (c .before .before .before .before .before .before .before .before .before .before .before .before .before .before .before .before .before .args .bytes .now)) (λ reg. refl) (c .before .before .before .before .before .before .before .before .before .before .before .before .before .before .before .before .before .args .register)) _ (rw (c .before .before .before .before .before .before .settings-of .ensures) at (c .before .before .before .before .before .needed .ensures)) (restore-answer _) (λ t. restored (settings-of (c .before .before .before .before .before .before .before .before .before .before .before .before .before .before .before .before .before .args .settings .now)) (c .before .before .before .before .before .before .before .before .before .before .before .before .before .before .before .before .before .args .register) t (some (dump-at (words-of (c .before .before .before .before .before .before .before .before .before .before .before .before .before .before .before .before .before .args .bytes .now)))) .state) (restored-whole (settings-of (c .before .before .before .before .before .before .before .before .before .before .before .before .before .before .before .before .before .args .settings .now)) (c .before .before .before .before .before .before .before .before .before .before .before .before .before .before .before .before .before .args .register) (dump-at (words-of (c .before .before .before .before .before .before .before .before .before .before .before .before .before .before .before .before .before .args .bytes .now)))) (λ t. restore-says (c .before .before .before .before .before .before .before .before .before .before .before .before .before .before .before .before .before .args .bytes .now) _ (sym (c .before .before .before .before .before .before .before .before .long .given .1) ∙ c .before .before .before .before .before .before .before .before .before .before .read-lengths .ensures) (settings-of (c .before .before .before .before .before .before .before .before .before .before .before .before .before .before .before .before .before .args .settings .now)) (c .before .before .before .before .before .before .before .before .before .before .before .before .before .before .before .before .before .args .register) t) (λ t. restore-leaves (c .before .before .before .before .before .before .before .before .before .before .before .before .before .before .before .before .before .args .bytes .now) _ (sym (c .before .before .before .before .before .before .before .before .long .given .1) ∙ c .before .before .before .before .before .before .before .before .before .before .read-lengths .ensures) (settings-of (c .before .before .before .before .before .before .before .before .before .before .before .before .before .before .before .before .before .args .settings .now)) (c .before .before .before .before .before .before .before .before .before .before .before .before .before .before .before .before .before .args .register) t) _ _ (rw (c .before .before .before .before .before .before .settings-of .ensures) at (c .before .before .before .restore .ensures .1)))

@@ -14,86 +14,67 @@ use borrow.Author.Needs.{needs}
 use Rattle.strikes.proofs.resume.Statement.{statement}
 use Rattle.strikes.proofs.resume.Tie as tie
 
--- src/lib.rt:490:9
 flag-fits-requires : tie.Need-flag-fits-requires
 flag-fits-requires c κs = search needs
 
--- src/lib.rt:491:9
 admitted-requires : tie.Need-admitted-requires
 admitted-requires c κs = search needs
 
--- src/lib.rt:493:9
 same-length : tie.Need-same-length
 same-length c = search needs
 
--- src/lib.rt:493:9
 returns : tie.Need-returns
 unfolding deed-fits late-deed
 returns c = told-refused (c .before .before .before .before .before .before .before .args .settings .now) (c .before .before .before .before .before .before .before .args .words .now) (c .before .before .before .before .before .before .before .args .register) (Resume (c .before .before .before .before .before .before .before .args .bytes .now) (c .before .before .before .before .before .before .before .args .flag) (c .before .before .before .before .before .before .before .args .floor)) _ (rw (c .before .before .before .flag-fits .ensures) at (c .before .admitted .ensures)) (c .if1 .taken)
 
--- src/lib.rt:495:31
 read-lengths-requires : tie.Need-read-lengths-requires
 read-lengths-requires c κs = search needs
 
--- src/lib.rt:495:23
 enum-known-long : tie.Need-enum-known-long
 enum-known-long c = search needs
 
--- src/lib.rt:496:9
 enum-told : tie.Need-enum-told
 enum-told c = search needs
 
--- src/lib.rt:496:9
 same-length-2 : tie.Need-same-length-2
 same-length-2 c = search needs
 
--- src/lib.rt:496:9
 returns-2 : tie.Need-returns-2
 unfolding deed-fits late-deed
 returns-2 c = told-cut (c .before .before .before .before .before .before .before .before .before .before .args .settings .now) (c .before .before .before .before .before .before .before .before .before .before .args .words .now) (c .before .before .before .before .before .before .before .before .before .before .args .bytes .now) (c .before .before .before .before .before .before .before .before .before .before .args .register) (Resume (c .before .before .before .before .before .before .before .before .before .before .args .bytes .now) (c .before .before .before .before .before .before .before .before .before .before .args .flag) (c .before .before .before .before .before .before .before .before .before .before .args .floor)) _ (rw (c .before .before .before .before .before .before .flag-fits .ensures) at (c .before .before .before .before .admitted .ensures)) (c .before .before .before .if1 .left) (λ reg. refl) (sym (c .enum-told .given .1) ∙ c .before .before .read-lengths .ensures)
 
--- src/lib.rt:498:9
 settings-of-requires : tie.Need-settings-of-requires
 unfolding deed-fits late-deed
 settings-of-requires c κs = words-fit (c .before .before .before .before .before .before .before .before .before .before .before .args .settings .now) (enters (c .before .before .before .before .before .before .before .before .before .before .before .args .settings .now) (c .before .before .before .before .before .before .before .before .before .before .before .args .words .now) (c .before .before .before .before .before .before .before .before .before .before .before .args .register) (Resume (c .before .before .before .before .before .before .before .before .before .before .before .args .bytes .now) (c .before .before .before .before .before .before .before .before .before .before .before .args .flag) (c .before .before .before .before .before .before .before .before .before .before .before .args .floor)) _ (rw (c .before .before .before .before .before .before .before .flag-fits .ensures) at (c .before .before .before .before .before .admitted .ensures)) (c .before .before .before .before .if1 .left) .fit) .0
 
--- src/lib.rt:499:9
 needed-requires : tie.Need-needed-requires
 unfolding deed-fits late-deed
 needed-requires c κs = rw (c .settings-of .ensures) (words-fit (c .before .before .before .before .before .before .before .before .before .before .before .before .args .settings .now) (enters (c .before .before .before .before .before .before .before .before .before .before .before .before .args .settings .now) (c .before .before .before .before .before .before .before .before .before .before .before .before .args .words .now) (c .before .before .before .before .before .before .before .before .before .before .before .before .args .register) (Resume (c .before .before .before .before .before .before .before .before .before .before .before .before .args .bytes .now) (c .before .before .before .before .before .before .before .before .before .before .before .before .args .flag) (c .before .before .before .before .before .before .before .before .before .before .before .before .args .floor)) _ (rw (c .before .before .before .before .before .before .before .before .flag-fits .ensures) at (c .before .before .before .before .before .before .admitted .ensures)) (c .before .before .before .before .before .if1 .left) .fit) .1)
 
--- src/lib.rt:501:35
 sub-resume : tie.Need-sub-resume
 sub-resume c = search needs
 
--- src/lib.rt:501:35
 part-resume-start : tie.Need-part-resume-start
 part-resume-start c = search needs
 
--- src/lib.rt:501:35
 part-resume-end : tie.Need-part-resume-end
 unfolding deed-fits late-deed
 part-resume-end c = search (whole-within (c .before .before .before .before .before .before .before .before .before .before .before .before .before .args .settings .now) (c .before .before .before .before .before .before .before .before .before .before .before .before .before .args .words .now) (c .before .before .before .before .before .before .before .before .before .before .before .before .before .args .register) (Resume (c .before .before .before .before .before .before .before .before .before .before .before .before .before .args .bytes .now) (c .before .before .before .before .before .before .before .before .before .before .before .before .before .args .flag) (c .before .before .before .before .before .before .before .before .before .before .before .before .before .args .floor)) _ (rw (c .before .before .before .before .before .before .before .before .before .flag-fits .ensures) at (c .before .before .before .before .before .before .before .admitted .ensures)) (c .before .before .before .before .before .before .if1 .left) (not-cut (c .before .before .before .before .before .before .before .before .before .before .before .before .before .args .bytes .now) _ (sym (c .before .before .before .long .given .1) ∙ c .before .before .before .before .before .read-lengths .ensures) (Resume (c .before .before .before .before .before .before .before .before .before .before .before .before .before .args .bytes .now) (c .before .before .before .before .before .before .before .before .before .before .before .before .before .args .flag) (c .before .before .before .before .before .before .before .before .before .before .before .before .before .args .floor)) (λ reg. refl) (c .before .before .before .before .before .before .before .before .before .before .before .before .before .args .register)) _ (rw (c .before .settings-of .ensures) at (c .needed .ensures)), needs)
 
--- src/lib.rt:501:9
 resume-requires : tie.Need-resume-requires
 unfolding deed-fits late-deed
 resume-requires c κs = (rw (c .before .before .settings-of .ensures) (whole-lies (c .before .before .before .before .before .before .before .before .before .before .before .before .before .before .args .settings .now) (c .before .before .before .before .before .before .before .before .before .before .before .before .before .before .args .words .now) (c .before .before .before .before .before .before .before .before .before .before .before .before .before .before .args .register) (Resume (c .before .before .before .before .before .before .before .before .before .before .before .before .before .before .args .bytes .now) (c .before .before .before .before .before .before .before .before .before .before .before .before .before .before .args .flag) (c .before .before .before .before .before .before .before .before .before .before .before .before .before .before .args .floor)) _ (rw (c .before .before .before .before .before .before .before .before .before .before .flag-fits .ensures) at (c .before .before .before .before .before .before .before .before .admitted .ensures)) (c .before .before .before .before .before .before .before .if1 .left) (not-cut (c .before .before .before .before .before .before .before .before .before .before .before .before .before .before .args .bytes .now) _ (sym (c .before .before .before .before .long .given .1) ∙ c .before .before .before .before .before .before .read-lengths .ensures) (Resume (c .before .before .before .before .before .before .before .before .before .before .before .before .before .before .args .bytes .now) (c .before .before .before .before .before .before .before .before .before .before .before .before .before .before .args .flag) (c .before .before .before .before .before .before .before .before .before .before .before .before .before .before .args .floor)) (λ reg. refl) (c .before .before .before .before .before .before .before .before .before .before .before .before .before .before .args .register)) _ (rw (c .before .before .settings-of .ensures) at (c .before .needed .ensures))), whole-dump (c .before .before .before .before .before .before .before .before .before .before .before .before .before .before .args .bytes .now) _ (sym (c .before .before .before .before .long .given .1) ∙ c .before .before .before .before .before .before .read-lengths .ensures))
 
--- src/lib.rt:502:26
 mul-told-restored : tie.Need-mul-told-restored
 unfolding deed-fits late-deed
 mul-told-restored c = search (within-bytes (c .before .before .before .before .before .before .before .before .before .before .before .before .before .before .before .before .before .args .bytes .now) _ (sym (c .before .before .before .before .before .before .before .long .given .1) ∙ c .before .before .before .before .before .before .before .before .before .read-lengths .ensures), c .before .before .before .before .before .before .before .before .before .before .before .before .before .before .before .before .before .good, needs)
 
--- src/lib.rt:502:5
 told-restored-requires : tie.Need-told-restored-requires
 told-restored-requires c κs = search needs
 
--- src/lib.rt:480:1
 same-length-3 : tie.Need-same-length-3
 same-length-3 c = search needs
 
--- src/lib.rt:480:1
 returns-3 : tie.Need-returns-3
 unfolding deed-fits late-deed
 returns-3 c = rw (c .told-restored .ensures) (told-whole (c .before .before .before .before .before .before .before .before .before .before .before .before .before .before .before .before .before .before .args .settings .now) (c .before .before .before .before .before .before .before .before .before .before .before .before .before .before .before .before .before .before .args .words .now) (c .before .before .before .before .before .before .before .before .before .before .before .before .before .before .before .before .before .before .args .register) (Resume (c .before .before .before .before .before .before .before .before .before .before .before .before .before .before .before .before .before .before .args .bytes .now) (c .before .before .before .before .before .before .before .before .before .before .before .before .before .before .before .before .before .before .args .flag) (c .before .before .before .before .before .before .before .before .before .before .before .before .before .before .before .before .before .before .args .floor)) _ (rw (c .before .before .before .before .before .before .before .before .before .before .before .before .before .before .flag-fits .ensures) at (c .before .before .before .before .before .before .before .before .before .before .before .before .admitted .ensures)) (c .before .before .before .before .before .before .before .before .before .before .before .if1 .left) (not-cut (c .before .before .before .before .before .before .before .before .before .before .before .before .before .before .before .before .before .before .args .bytes .now) _ (sym (c .before .before .before .before .before .before .before .before .long .given .1) ∙ c .before .before .before .before .before .before .before .before .before .before .read-lengths .ensures) (Resume (c .before .before .before .before .before .before .before .before .before .before .before .before .before .before .before .before .before .before .args .bytes .now) (c .before .before .before .before .before .before .before .before .before .before .before .before .before .before .before .before .before .before .args .flag) (c .before .before .before .before .before .before .before .before .before .before .before .before .before .before .before .before .before .before .args .floor)) (λ reg. refl) (c .before .before .before .before .before .before .before .before .before .before .before .before .before .before .before .before .before .before .args .register)) _ (rw (c .before .before .before .before .before .before .settings-of .ensures) at (c .before .before .before .before .before .needed .ensures)) (restore-answer _) (λ t. resumed (settings-of (c .before .before .before .before .before .before .before .before .before .before .before .before .before .before .before .before .before .before .args .settings .now)) (c .before .before .before .before .before .before .before .before .before .before .before .before .before .before .before .before .before .before .args .register) t (proven-of (c .before .before .before .before .before .before .before .before .before .before .before .before .before .before .before .before .before .before .args .flag) (c .before .before .before .before .before .before .before .before .before .before .before .before .before .before .before .before .before .before .args .floor)) (some (dump-at (words-of (c .before .before .before .before .before .before .before .before .before .before .before .before .before .before .before .before .before .before .args .bytes .now)))) .state) (resumed-whole (settings-of (c .before .before .before .before .before .before .before .before .before .before .before .before .before .before .before .before .before .before .args .settings .now)) (c .before .before .before .before .before .before .before .before .before .before .before .before .before .before .before .before .before .before .args .register) (dump-at (words-of (c .before .before .before .before .before .before .before .before .before .before .before .before .before .before .before .before .before .before .args .bytes .now))) (proven-of (c .before .before .before .before .before .before .before .before .before .before .before .before .before .before .before .before .before .before .args .flag) (c .before .before .before .before .before .before .before .before .before .before .before .before .before .before .before .before .before .before .args .floor))) (λ t. resume-says (c .before .before .before .before .before .before .before .before .before .before .before .before .before .before .before .before .before .before .args .bytes .now) _ (sym (c .before .before .before .before .before .before .before .before .long .given .1) ∙ c .before .before .before .before .before .before .before .before .before .before .read-lengths .ensures) (settings-of (c .before .before .before .before .before .before .before .before .before .before .before .before .before .before .before .before .before .before .args .settings .now)) (c .before .before .before .before .before .before .before .before .before .before .before .before .before .before .before .before .before .before .args .register) t (c .before .before .before .before .before .before .before .before .before .before .before .before .before .before .before .before .before .before .args .flag) (c .before .before .before .before .before .before .before .before .before .before .before .before .before .before .before .before .before .before .args .floor)) (λ t. resume-leaves (c .before .before .before .before .before .before .before .before .before .before .before .before .before .before .before .before .before .before .args .bytes .now) _ (sym (c .before .before .before .before .before .before .before .before .long .given .1) ∙ c .before .before .before .before .before .before .before .before .before .before .read-lengths .ensures) (settings-of (c .before .before .before .before .before .before .before .before .before .before .before .before .before .before .before .before .before .before .args .settings .now)) (c .before .before .before .before .before .before .before .before .before .before .before .before .before .before .before .before .before .before .args .register) t (c .before .before .before .before .before .before .before .before .before .before .before .before .before .before .before .before .before .before .args .flag) (c .before .before .before .before .before .before .before .before .before .before .before .before .before .before .before .before .before .before .args .floor)) _ _ (rw (c .before .before .before .before .before .before .settings-of .ensures) at (c .before .before .before .resume .ensures .1)))

@@ -10,50 +10,39 @@ use borrow.Author.Needs.{needs}
 use Rattle.strikes.proofs.set_limits.Statement.{statement}
 use Rattle.strikes.proofs.set_limits.Tie as tie
 
--- src/lib.rt:294:9
 limits-fit-requires : tie.Need-limits-fit-requires
 limits-fit-requires c κs = search needs
 
--- src/lib.rt:295:9
 vetted-requires : tie.Need-vetted-requires
 vetted-requires c κs = search needs
 
--- src/lib.rt:297:9
 same-length : tie.Need-same-length
 same-length c = search needs
 
--- src/lib.rt:297:9
 returns : tie.Need-returns
 unfolding codes-fit
 returns c = book-refused (c .before .before .before .before .before .before .before .args .settings .now) (c .before .before .before .before .before .before .before .args .words .now) (SetLimits (c .before .before .before .before .before .before .before .args .limits .now)) (limits (c .before .before .before .before .before .before .before .args .limits .now)) _ (rw (c .before .before .before .limits-fit .ensures) at (c .before .vetted .ensures)) (c .if1 .taken)
 
--- src/lib.rt:299:9
 limits-of-requires : tie.Need-limits-of-requires
 unfolding codes-fit
 limits-of-requires c κs = limits-long (c .before .before .before .before .before .before .before .args .limits .now) (codes-there (c .before .before .before .before .before .before .before .args .settings .now) (c .before .before .before .before .before .before .before .args .words .now) (SetLimits (c .before .before .before .before .before .before .before .args .limits .now)) (limits (c .before .before .before .before .before .before .before .args .limits .now)) _ (rw (c .before .before .before .limits-fit .ensures) at (c .before .vetted .ensures)) (c .if1 .left))
 
--- src/lib.rt:300:29
 sub-set-limits : tie.Need-sub-set-limits
 sub-set-limits c = search needs
 
--- src/lib.rt:300:29
 part-set-limits-start : tie.Need-part-set-limits-start
 part-set-limits-start c = search needs
 
--- src/lib.rt:300:29
 part-set-limits-end : tie.Need-part-set-limits-end
 unfolding codes-fit
 part-set-limits-end c = search (front-there (c .before .before .before .before .before .before .before .before .args .settings .now) (c .before .before .before .before .before .before .before .before .args .words .now) (SetLimits (c .before .before .before .before .before .before .before .before .args .limits .now)) (limits (c .before .before .before .before .before .before .before .before .args .limits .now)) _ (rw (c .before .before .before .before .limits-fit .ensures) at (c .before .before .vetted .ensures)) (c .before .if1 .left), needs)
 
--- src/lib.rt:300:5
 set-limits-requires : tie.Need-set-limits-requires
 set-limits-requires c κs = search needs
 
--- src/lib.rt:291:1
 same-length-2 : tie.Need-same-length-2
 same-length-2 c = search needs
 
--- src/lib.rt:291:1
 returns-2 : tie.Need-returns-2
 unfolding codes-fit step with-limits
 returns-2 c = told-front (c .before .before .before .before .before .before .before .before .before .before .before .before .args .settings .now) (c .before .before .before .before .before .before .before .before .before .before .before .before .args .words .now) (SetLimits (c .before .before .before .before .before .before .before .before .before .before .before .before .args .limits .now)) (limits (c .before .before .before .before .before .before .before .before .before .before .before .before .args .limits .now)) _ (rw (c .before .before .before .before .before .before .before .before .limits-fit .ensures) at (c .before .before .before .before .before .before .vetted .ensures)) (c .before .before .before .before .before .if1 .left) (λ (v : Unit {0}). Done) (limited (limits-of (c .before .before .before .before .before .before .before .before .before .before .before .before .args .limits .now))) (λ f. tt) (λ t. refl) (λ t. refl) _ _ (rw (c .before .before .before .before .limits-of .ensures) at (c .before .before .set-limits .ensures (settings-of (c .before .before .before .before .before .before .before .before .before .before .before .before .args .settings .now))))

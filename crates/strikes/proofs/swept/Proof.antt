@@ -6,42 +6,33 @@ use borrow.Author.Needs.{needs}
 use Rattle.strikes.proofs.swept.Statement.{statement}
 use Rattle.strikes.proofs.swept.Tie as tie
 
--- src/lib.rt:191:9
 admitted-requires : tie.Need-admitted-requires
 admitted-requires c κs = search needs
 
--- src/lib.rt:193:9
 returns : tie.Need-returns
 unfolding deed-fits
 returns c = read-refused (c .before .before .before .before .args .settings .now) (c .before .before .before .before .args .words .now) (c .before .before .before .before .args .register) SweptBucket _ (c .before .admitted .ensures) (c .if1 .taken)
 
--- src/lib.rt:195:9
 place-of-requires : tie.Need-place-of-requires
 unfolding deed-fits
 place-of-requires c κs = let q = enters (c .before .before .before .before .args .settings .now) (c .before .before .before .before .args .words .now) (c .before .before .before .before .args .register) SweptBucket _ (c .before .admitted .ensures) (c .if1 .left) in (q .fit, q .there)
 
--- src/lib.rt:198:21
 mul-swept : tie.Need-mul-swept
 mul-swept c = search needs
 
--- src/lib.rt:198:21
 sub-swept : tie.Need-sub-swept
 sub-swept c = search needs
 
--- src/lib.rt:198:21
 part-swept-start : tie.Need-part-swept-start
 part-swept-start c = search needs
 
--- src/lib.rt:198:21
 part-swept-end : tie.Need-part-swept-end
 unfolding deed-fits
 part-swept-end c = search (end-within (c .before .before .before .before .before .args .settings .now) (c .before .before .before .before .before .args .words .now) (c .before .before .before .before .before .args .register) SweptBucket _ (c .before .before .admitted .ensures) (c .before .if1 .left) (c .place-of .result) (c .place-of .ensures), needs)
 
--- src/lib.rt:198:5
 swept-requires : tie.Need-swept-requires
 swept-requires c κs = search needs
 
--- src/lib.rt:188:1
 returns-2 : tie.Need-returns-2
 unfolding deed-fits late-deed done-on
 returns-2 c = told-read (c .before .before .before .before .before .before .before .args .settings .now) (c .before .before .before .before .before .before .before .args .words .now) (c .before .before .before .before .before .before .before .args .register) SweptBucket _ (c .before .before .before .before .admitted .ensures) (c .before .before .before .if1 .left) (c .before .before .place-of .result) (c .before .before .place-of .ensures) (λ reg. refl) (λ a. a) swept-answer (λ t. refl) _ (c .swept .ensures (c .before .before .place-of .result .u))

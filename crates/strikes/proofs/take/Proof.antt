@@ -11,69 +11,56 @@ use borrow.Author.Needs.{needs}
 use Rattle.strikes.proofs.take.Statement.{statement}
 use Rattle.strikes.proofs.take.Tie as tie
 
--- src/lib.rt:248:9
-ticket-codes-requires : tie.Need-ticket-codes-requires
-ticket-codes-requires c κs = search needs
+ticket-fits-requires : tie.Need-ticket-fits-requires
+ticket-fits-requires c κs = search needs
 
--- src/lib.rt:249:9
 admitted-requires : tie.Need-admitted-requires
 admitted-requires c κs = search needs
 
--- src/lib.rt:251:9
 same-length : tie.Need-same-length
 same-length c = search needs
 
--- src/lib.rt:251:9
 returns : tie.Need-returns
 unfolding deed-fits
-returns c = told-refused (c .before .before .before .before .before .before .args .settings .now) (c .before .before .before .before .before .before .args .words .now) (c .before .before .before .before .before .before .args .register) (Ticket taken (record { fp = c .before .before .before .before .before .before .args .fp; stamp = c .before .before .before .before .before .before .args .stamp; ms = c .before .before .before .before .before .before .args .reading; flag = c .before .before .before .before .before .before .args .flag; kind = c .before .before .before .before .before .before .args .kind; number = c .before .before .before .before .before .before .args .number })) _ (rw (c .before .before .before .ticket-codes .ensures) at (c .before .admitted .ensures)) (c .if1 .taken)
+returns c = told-refused (c .before .before .before .before .before .before .args .settings .now) (c .before .before .before .before .before .before .args .words .now) (c .before .before .before .before .before .before .args .register) (Ticket taken (record { fp = c .before .before .before .before .before .before .args .fp; stamp = c .before .before .before .before .before .before .args .stamp; ms = c .before .before .before .before .before .before .args .reading; flag = c .before .before .before .before .before .before .args .flag; kind = c .before .before .before .before .before .before .args .kind; number = c .before .before .before .before .before .before .args .number })) _ (rw (c .before .before .before .ticket-fits .ensures) at (c .before .admitted .ensures)) (c .if1 .taken)
 
--- src/lib.rt:253:9
 settings-of-requires : tie.Need-settings-of-requires
 unfolding deed-fits
-settings-of-requires c κs = words-fit (c .before .before .before .before .before .before .args .settings .now) (enters (c .before .before .before .before .before .before .args .settings .now) (c .before .before .before .before .before .before .args .words .now) (c .before .before .before .before .before .before .args .register) (Ticket taken (record { fp = c .before .before .before .before .before .before .args .fp; stamp = c .before .before .before .before .before .before .args .stamp; ms = c .before .before .before .before .before .before .args .reading; flag = c .before .before .before .before .before .before .args .flag; kind = c .before .before .before .before .before .before .args .kind; number = c .before .before .before .before .before .before .args .number })) _ (rw (c .before .before .before .ticket-codes .ensures) at (c .before .admitted .ensures)) (c .if1 .left) .fit) .0
+settings-of-requires c κs = words-fit (c .before .before .before .before .before .before .args .settings .now) (enters (c .before .before .before .before .before .before .args .settings .now) (c .before .before .before .before .before .before .args .words .now) (c .before .before .before .before .before .before .args .register) (Ticket taken (record { fp = c .before .before .before .before .before .before .args .fp; stamp = c .before .before .before .before .before .before .args .stamp; ms = c .before .before .before .before .before .before .args .reading; flag = c .before .before .before .before .before .before .args .flag; kind = c .before .before .before .before .before .before .args .kind; number = c .before .before .before .before .before .before .args .number })) _ (rw (c .before .before .before .ticket-fits .ensures) at (c .before .admitted .ensures)) (c .if1 .left) .fit) .0
 
--- src/lib.rt:254:9
 needed-requires : tie.Need-needed-requires
 unfolding deed-fits
-needed-requires c κs = rw (c .settings-of .ensures) (words-fit (c .before .before .before .before .before .before .before .args .settings .now) (enters (c .before .before .before .before .before .before .before .args .settings .now) (c .before .before .before .before .before .before .before .args .words .now) (c .before .before .before .before .before .before .before .args .register) (Ticket taken (record { fp = c .before .before .before .before .before .before .before .args .fp; stamp = c .before .before .before .before .before .before .before .args .stamp; ms = c .before .before .before .before .before .before .before .args .reading; flag = c .before .before .before .before .before .before .before .args .flag; kind = c .before .before .before .before .before .before .before .args .kind; number = c .before .before .before .before .before .before .before .args .number })) _ (rw (c .before .before .before .before .ticket-codes .ensures) at (c .before .before .admitted .ensures)) (c .before .if1 .left) .fit) .1)
+needed-requires c κs = rw (c .settings-of .ensures) (words-fit (c .before .before .before .before .before .before .before .args .settings .now) (enters (c .before .before .before .before .before .before .before .args .settings .now) (c .before .before .before .before .before .before .before .args .words .now) (c .before .before .before .before .before .before .before .args .register) (Ticket taken (record { fp = c .before .before .before .before .before .before .before .args .fp; stamp = c .before .before .before .before .before .before .before .args .stamp; ms = c .before .before .before .before .before .before .before .args .reading; flag = c .before .before .before .before .before .before .before .args .flag; kind = c .before .before .before .before .before .before .before .args .kind; number = c .before .before .before .before .before .before .before .args .number })) _ (rw (c .before .before .before .before .ticket-fits .ensures) at (c .before .before .admitted .ensures)) (c .before .if1 .left) .fit) .1)
 
--- src/lib.rt:255:9
 ask-of-requires : tie.Need-ask-of-requires
 ask-of-requires c κs = search needs
 
--- src/lib.rt:257:32
 sub-take : tie.Need-sub-take
 sub-take c = search needs
 
--- src/lib.rt:257:32
 part-take-start : tie.Need-part-take-start
 part-take-start c = search needs
 
--- src/lib.rt:257:32
 part-take-end : tie.Need-part-take-end
 unfolding deed-fits late-deed
-part-take-end c = search (whole-within (c .before .before .before .before .before .before .before .before .before .args .settings .now) (c .before .before .before .before .before .before .before .before .before .args .words .now) (c .before .before .before .before .before .before .before .before .before .args .register) (Ticket taken (record { fp = c .before .before .before .before .before .before .before .before .before .args .fp; stamp = c .before .before .before .before .before .before .before .before .before .args .stamp; ms = c .before .before .before .before .before .before .before .before .before .args .reading; flag = c .before .before .before .before .before .before .before .before .before .args .flag; kind = c .before .before .before .before .before .before .before .before .before .args .kind; number = c .before .before .before .before .before .before .before .before .before .args .number })) _ (rw (c .before .before .before .before .before .before .ticket-codes .ensures) at (c .before .before .before .before .admitted .ensures)) (c .before .before .before .if1 .left) (λ t. refl) (c .before .needed .result) (rw (c .before .before .settings-of .ensures) at (c .before .needed .ensures)), needs)
+part-take-end c = search (whole-within (c .before .before .before .before .before .before .before .before .before .args .settings .now) (c .before .before .before .before .before .before .before .before .before .args .words .now) (c .before .before .before .before .before .before .before .before .before .args .register) (Ticket taken (record { fp = c .before .before .before .before .before .before .before .before .before .args .fp; stamp = c .before .before .before .before .before .before .before .before .before .args .stamp; ms = c .before .before .before .before .before .before .before .before .before .args .reading; flag = c .before .before .before .before .before .before .before .before .before .args .flag; kind = c .before .before .before .before .before .before .before .before .before .args .kind; number = c .before .before .before .before .before .before .before .before .before .args .number })) _ (rw (c .before .before .before .before .before .before .ticket-fits .ensures) at (c .before .before .before .before .admitted .ensures)) (c .before .before .before .if1 .left) (λ t. refl) (c .before .needed .result) (rw (c .before .before .settings-of .ensures) at (c .before .needed .ensures)), needs)
 
--- src/lib.rt:257:9
 take-requires : tie.Need-take-requires
 unfolding deed-fits late-deed
-take-requires c κs = rw (c .before .before .before .settings-of .ensures) (whole-lies (c .before .before .before .before .before .before .before .before .before .before .args .settings .now) (c .before .before .before .before .before .before .before .before .before .before .args .words .now) (c .before .before .before .before .before .before .before .before .before .before .args .register) (Ticket taken (record { fp = c .before .before .before .before .before .before .before .before .before .before .args .fp; stamp = c .before .before .before .before .before .before .before .before .before .before .args .stamp; ms = c .before .before .before .before .before .before .before .before .before .before .args .reading; flag = c .before .before .before .before .before .before .before .before .before .before .args .flag; kind = c .before .before .before .before .before .before .before .before .before .before .args .kind; number = c .before .before .before .before .before .before .before .before .before .before .args .number })) _ (rw (c .before .before .before .before .before .before .before .ticket-codes .ensures) at (c .before .before .before .before .before .admitted .ensures)) (c .before .before .before .before .if1 .left) (λ t. refl) (c .before .before .needed .result) (rw (c .before .before .before .settings-of .ensures) at (c .before .before .needed .ensures)))
+take-requires c κs = rw (c .before .before .before .settings-of .ensures) (whole-lies (c .before .before .before .before .before .before .before .before .before .before .args .settings .now) (c .before .before .before .before .before .before .before .before .before .before .args .words .now) (c .before .before .before .before .before .before .before .before .before .before .args .register) (Ticket taken (record { fp = c .before .before .before .before .before .before .before .before .before .before .args .fp; stamp = c .before .before .before .before .before .before .before .before .before .before .args .stamp; ms = c .before .before .before .before .before .before .before .before .before .before .args .reading; flag = c .before .before .before .before .before .before .before .before .before .before .args .flag; kind = c .before .before .before .before .before .before .before .before .before .before .args .kind; number = c .before .before .before .before .before .before .before .before .before .before .args .number })) _ (rw (c .before .before .before .before .before .before .before .ticket-fits .ensures) at (c .before .before .before .before .before .admitted .ensures)) (c .before .before .before .before .if1 .left) (λ t. refl) (c .before .before .needed .result) (rw (c .before .before .before .settings-of .ensures) at (c .before .before .needed .ensures)))
 
--- src/lib.rt:245:1
 same-length-2 : tie.Need-same-length-2
 same-length-2 c = search needs
 
--- src/lib.rt:245:1
 returns-2 : tie.Need-returns-2
 unfolding deed-fits late-deed done-on asked after-taken
-returns-2 c = told-whole (c .before .before .before .before .before .before .before .before .before .before .before .before .before .args .settings .now) (c .before .before .before .before .before .before .before .before .before .before .before .before .before .args .words .now) (c .before .before .before .before .before .before .before .before .before .before .before .before .before .args .register) (Ticket taken (record { fp = c .before .before .before .before .before .before .before .before .before .before .before .before .before .args .fp; stamp = c .before .before .before .before .before .before .before .before .before .before .before .before .before .args .stamp; ms = c .before .before .before .before .before .before .before .before .before .before .before .before .before .args .reading; flag = c .before .before .before .before .before .before .before .before .before .before .before .before .before .args .flag; kind = c .before .before .before .before .before .before .before .before .before .before .before .before .before .args .kind; number = c .before .before .before .before .before .before .before .before .before .before .before .before .before .args .number })) _ (rw (c .before .before .before .before .before .before .before .before .before .before .ticket-codes .ensures) at (c .before .before .before .before .before .before .before .before .admitted .ensures)) (c .before .before .before .before .before .before .before .if1 .left) (λ t. refl) (c .before .before .before .before .before .needed .result) (rw (c .before .before .before .before .before .before .settings-of .ensures) at (c .before .before .before .before .before .needed .ensures)) Said (λ t. asked (settings-of (c .before .before .before .before .before .before .before .before .before .before .before .before .before .args .settings .now)) (c .before .before .before .before .before .before .before .before .before .before .before .before .before .args .register) taken (asked-by (c .before .before .before .before .ask-of .result)) t .state) (take-says (settings-of (c .before .before .before .before .before .before .before .before .before .before .before .before .before .args .settings .now)) (c .before .before .before .before .before .before .before .before .before .before .before .before .before .args .register) (asked-by (c .before .before .before .before .ask-of .result))) (λ t. rw (c .before .before .before .before .ask-of .ensures)) (λ t. rw (c .before .before .before .before .ask-of .ensures)) _ _ (rw (c .before .before .before .before .before .before .settings-of .ensures) at (c .before .before .take .ensures))
+returns-2 c = told-whole (c .before .before .before .before .before .before .before .before .before .before .before .before .before .args .settings .now) (c .before .before .before .before .before .before .before .before .before .before .before .before .before .args .words .now) (c .before .before .before .before .before .before .before .before .before .before .before .before .before .args .register) (Ticket taken (record { fp = c .before .before .before .before .before .before .before .before .before .before .before .before .before .args .fp; stamp = c .before .before .before .before .before .before .before .before .before .before .before .before .before .args .stamp; ms = c .before .before .before .before .before .before .before .before .before .before .before .before .before .args .reading; flag = c .before .before .before .before .before .before .before .before .before .before .before .before .before .args .flag; kind = c .before .before .before .before .before .before .before .before .before .before .before .before .before .args .kind; number = c .before .before .before .before .before .before .before .before .before .before .before .before .before .args .number })) _ (rw (c .before .before .before .before .before .before .before .before .before .before .ticket-fits .ensures) at (c .before .before .before .before .before .before .before .before .admitted .ensures)) (c .before .before .before .before .before .before .before .if1 .left) (λ t. refl) (c .before .before .before .before .before .needed .result) (rw (c .before .before .before .before .before .before .settings-of .ensures) at (c .before .before .before .before .before .needed .ensures)) Said (λ t. asked (settings-of (c .before .before .before .before .before .before .before .before .before .before .before .before .before .args .settings .now)) (c .before .before .before .before .before .before .before .before .before .before .before .before .before .args .register) taken (asked-by (c .before .before .before .before .ask-of .result)) t .state) (take-says (settings-of (c .before .before .before .before .before .before .before .before .before .before .before .before .before .args .settings .now)) (c .before .before .before .before .before .before .before .before .before .before .before .before .before .args .register) (asked-by (c .before .before .before .before .ask-of .result))) (λ t. rw (c .before .before .before .before .ask-of .ensures)) (λ t. rw (c .before .before .before .before .ask-of .ensures)) _ _ (rw (c .before .before .before .before .before .before .settings-of .ensures) at (c .before .before .take .ensures))
 
 pub take-spec : {M : Type 1} → statement M
 take-spec =
     tie.close
     (tie.spec
-    ticket-codes-requires
+    ticket-fits-requires
     admitted-requires
     same-length
     returns

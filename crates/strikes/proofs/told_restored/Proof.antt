@@ -1,11 +1,9 @@
 use Rattle.strikes.proofs.told_restored.Statement.{statement}
 use Rattle.strikes.proofs.told_restored.Tie as tie
 
--- src/lib.rt:456:9
 returns : tie.Need-returns
 returns c = rw (c .if1 .taken)
 
--- src/lib.rt:452:1
 returns-2 : tie.Need-returns-2
 returns-2 c = rw (c .if1 .left)
 

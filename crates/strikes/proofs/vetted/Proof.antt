@@ -4,15 +4,12 @@ use borrow.Author.Needs.{needs}
 use Rattle.strikes.proofs.vetted.Statement.{statement}
 use Rattle.strikes.proofs.vetted.Tie as tie
 
--- src/lib.rt:78:9
 returns : tie.Need-returns
 returns c = codes-unlisted (c .before .before .before .args .settings .now) (c .before .before .before .args .words .now) (c .before .before .before .args .codes) (not-true _ (c .if1 .taken))
 
--- src/lib.rt:80:5
 vet-requires : tie.Need-vet-requires
 vet-requires c κs = search needs
 
--- src/lib.rt:74:1
 returns-2 : tie.Need-returns-2
 returns-2 c = codes-listed (c .before .before .before .before .args .settings .now) (c .before .before .before .before .args .words .now) (c .before .before .before .before .args .codes) (not-false _ (c .before .if1 .left)) _ (c .vet .ensures)
 

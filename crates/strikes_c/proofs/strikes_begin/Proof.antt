@@ -6,23 +6,18 @@ use borrow.Author.Needs.{needs}
 use Rattle.strikes_c.proofs.strikes_begin.Statement.{statement}
 use Rattle.strikes_c.proofs.strikes_begin.Tie as tie
 
--- src/lib.rt:136:21
 begin-requires : tie.Need-begin-requires
 begin-requires c κs = search needs
 
--- src/lib.rt:136:9
 send-requires : tie.Need-send-requires
 send-requires c κs = search needs
 
--- src/lib.rt:137:14
 first-or-requires : tie.Need-first-or-requires
 first-or-requires c κs = search needs
 
--- src/lib.rt:132:1
 same-length : tie.Need-same-length
 same-length c = search needs
 
--- src/lib.rt:132:1
 returns : tie.Need-returns
 returns c = told-out _ _ _ _ _ (c .before .before .send .ensures) _ _ _ (c .before .before .before .before .before .begin .ensures) (ap (λ (v : ℕ). v ∷ []) (c .first-or .ensures))
 

@@ -3,31 +3,24 @@ use borrow.Author.Needs.{needs}
 use Rattle.strikes_c.proofs.strikes_class.Statement.{statement}
 use Rattle.strikes_c.proofs.strikes_class.Tie as tie
 
--- src/lib.rt:223:21
 totals-requires : tie.Need-totals-requires
 totals-requires c κs = search needs
 
--- src/lib.rt:223:9
 send-requires : tie.Need-send-requires
 send-requires c κs = search needs
 
--- src/lib.rt:224:16
 first-or-requires : tie.Need-first-or-requires
 first-or-requires c κs = search needs
 
--- src/lib.rt:225:16
 second-or-requires : tie.Need-second-or-requires
 second-or-requires c κs = search needs
 
--- src/lib.rt:226:14
 third-or-requires : tie.Need-third-or-requires
 third-or-requires c κs = search needs
 
--- src/lib.rt:227:16
 fourth-or-requires : tie.Need-fourth-or-requires
 fourth-or-requires c κs = search needs
 
--- src/lib.rt:211:1
 returns : tie.Need-returns
 returns c = read-out _ _ _ _ _ (c .before .before .before .before .before .before .before .before .send .ensures) _ _ (c .before .before .before .before .before .before .before .before .before .totals .ensures) (rw (c .before .before .before .before .before .before .first-or .ensures, c .before .before .before .before .second-or .ensures, c .before .before .third-or .ensures, c .fourth-or .ensures))
 

@@ -4,19 +4,15 @@ use borrow.Author.Needs.{needs}
 use Rattle.strikes_c.proofs.strikes_close.Statement.{statement}
 use Rattle.strikes_c.proofs.strikes_close.Tie as tie
 
--- src/lib.rt:164:21
 close-requires : tie.Need-close-requires
 close-requires c κs = search needs
 
--- src/lib.rt:164:9
 send-requires : tie.Need-send-requires
 send-requires c κs = search needs
 
--- src/lib.rt:160:1
 same-length : tie.Need-same-length
 same-length c = search needs
 
--- src/lib.rt:160:1
 returns : tie.Need-returns
 returns c = told-out _ _ _ _ _ (c .send .ensures) _ _ _ (c .before .before .before .close .ensures) refl
 

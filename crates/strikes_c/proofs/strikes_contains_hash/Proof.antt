@@ -6,19 +6,15 @@ use borrow.Author.Needs.{needs}
 use Rattle.strikes_c.proofs.strikes_contains_hash.Statement.{statement}
 use Rattle.strikes_c.proofs.strikes_contains_hash.Tie as tie
 
--- src/lib.rt:126:21
 contains-hash-requires : tie.Need-contains-hash-requires
 contains-hash-requires c κs = search needs
 
--- src/lib.rt:126:9
 send-requires : tie.Need-send-requires
 send-requires c κs = search needs
 
--- src/lib.rt:127:13
 first-or-requires : tie.Need-first-or-requires
 first-or-requires c κs = search needs
 
--- src/lib.rt:122:1
 returns : tie.Need-returns
 returns c = read-out _ _ _ _ _ (c .before .before .send .ensures) _ _ (c .before .before .before .contains-hash .ensures) (ap (λ (v : ℕ). v ∷ []) (c .first-or .ensures))
 

@@ -6,23 +6,18 @@ use borrow.Author.Needs.{needs}
 use Rattle.strikes_c.proofs.strikes_dump.Statement.{statement}
 use Rattle.strikes_c.proofs.strikes_dump.Tie as tie
 
--- src/lib.rt:244:21
 dump-requires : tie.Need-dump-requires
 dump-requires c κs = search needs
 
--- src/lib.rt:244:9
 send-requires : tie.Need-send-requires
 send-requires c κs = search needs
 
--- src/lib.rt:245:16
 first-or-requires : tie.Need-first-or-requires
 first-or-requires c κs = search needs
 
--- src/lib.rt:240:1
 same-length : tie.Need-same-length
 same-length c = search needs
 
--- src/lib.rt:240:1
 returns : tie.Need-returns
 returns c = written-out _ _ _ _ _ (c .before .before .send .ensures) _ _ _ (c .before .before .before .before .before .dump .ensures) (ap (λ (v : ℕ). v ∷ []) (c .first-or .ensures))
 

@@ -6,19 +6,15 @@ use borrow.Author.Needs.{needs}
 use Rattle.strikes_c.proofs.strikes_held.Statement.{statement}
 use Rattle.strikes_c.proofs.strikes_held.Tie as tie
 
--- src/lib.rt:205:21
 held-requires : tie.Need-held-requires
 held-requires c κs = search needs
 
--- src/lib.rt:205:9
 send-requires : tie.Need-send-requires
 send-requires c κs = search needs
 
--- src/lib.rt:206:16
 first-or-requires : tie.Need-first-or-requires
 first-or-requires c κs = search needs
 
--- src/lib.rt:201:1
 returns : tie.Need-returns
 returns c = read-out _ _ _ _ _ (c .before .before .send .ensures) _ _ (c .before .before .before .held .ensures) (ap (λ (v : ℕ). v ∷ []) (c .first-or .ensures))
 

@@ -6,23 +6,18 @@ use borrow.Author.Needs.{needs}
 use Rattle.strikes_c.proofs.strikes_judge.Statement.{statement}
 use Rattle.strikes_c.proofs.strikes_judge.Tie as tie
 
--- src/lib.rt:53:21
 judge-requires : tie.Need-judge-requires
 judge-requires c κs = search needs
 
--- src/lib.rt:53:9
 send-requires : tie.Need-send-requires
 send-requires c κs = search needs
 
--- src/lib.rt:54:16
 first-or-requires : tie.Need-first-or-requires
 first-or-requires c κs = search needs
 
--- src/lib.rt:38:1
 same-length : tie.Need-same-length
 same-length c = search needs
 
--- src/lib.rt:38:1
 returns : tie.Need-returns
 returns c = told-out _ _ _ _ _ (c .before .before .send .ensures) _ _ _ (c .before .before .before .before .before .judge .ensures) (ap (λ (v : ℕ). v ∷ []) (c .first-or .ensures))
 

@@ -6,23 +6,18 @@ use borrow.Author.Needs.{needs}
 use Rattle.strikes_c.proofs.strikes_judge_batch.Statement.{statement}
 use Rattle.strikes_c.proofs.strikes_judge_batch.Tie as tie
 
--- src/lib.rt:74:21
 judge-batch-requires : tie.Need-judge-batch-requires
 judge-batch-requires c κs = search needs
 
--- src/lib.rt:74:9
 send-requires : tie.Need-send-requires
 send-requires c κs = search needs
 
--- src/lib.rt:75:16
 first-or-requires : tie.Need-first-or-requires
 first-or-requires c κs = search needs
 
--- src/lib.rt:59:1
 same-length : tie.Need-same-length
 same-length c = search needs
 
--- src/lib.rt:59:1
 returns : tie.Need-returns
 returns c = told-out _ _ _ _ _ (c .before .before .send .ensures) _ _ _ (c .before .before .before .before .before .judge-batch .ensures) (ap (λ (v : ℕ). v ∷ []) (c .first-or .ensures))
 

@@ -4,19 +4,15 @@ use borrow.Author.Needs.{needs}
 use Rattle.strikes_c.proofs.strikes_open.Statement.{statement}
 use Rattle.strikes_c.proofs.strikes_open.Tie as tie
 
--- src/lib.rt:33:21
 open-requires : tie.Need-open-requires
 open-requires c κs = search needs
 
--- src/lib.rt:33:9
 send-requires : tie.Need-send-requires
 send-requires c κs = search needs
 
--- src/lib.rt:29:1
 same-length : tie.Need-same-length
 same-length c = search needs
 
--- src/lib.rt:29:1
 returns : tie.Need-returns
 returns c = told-out _ _ _ _ _ (c .send .ensures) _ _ _ (c .before .before .before .«open» .ensures) refl
 

@@ -6,19 +6,15 @@ use borrow.Author.Needs.{needs}
 use Rattle.strikes_c.proofs.strikes_pending.Statement.{statement}
 use Rattle.strikes_c.proofs.strikes_pending.Tie as tie
 
--- src/lib.rt:184:21
 pending-requires : tie.Need-pending-requires
 pending-requires c κs = search needs
 
--- src/lib.rt:184:9
 send-requires : tie.Need-send-requires
 send-requires c κs = search needs
 
--- src/lib.rt:185:16
 first-or-requires : tie.Need-first-or-requires
 first-or-requires c κs = search needs
 
--- src/lib.rt:180:1
 returns : tie.Need-returns
 returns c = read-out _ _ _ _ _ (c .before .before .send .ensures) _ _ (c .before .before .before .pending .ensures) (ap (λ (v : ℕ). v ∷ []) (c .first-or .ensures))
 

@@ -3,27 +3,21 @@ use borrow.Author.Needs.{needs}
 use Rattle.strikes_c.proofs.strikes_resume.Statement.{statement}
 use Rattle.strikes_c.proofs.strikes_resume.Tie as tie
 
--- src/lib.rt:281:21
 resume-requires : tie.Need-resume-requires
 resume-requires c κs = search needs
 
--- src/lib.rt:281:9
 send-requires : tie.Need-send-requires
 send-requires c κs = search needs
 
--- src/lib.rt:282:14
 first-or-requires : tie.Need-first-or-requires
 first-or-requires c κs = search needs
 
--- src/lib.rt:283:13
 second-or-requires : tie.Need-second-or-requires
 second-or-requires c κs = search needs
 
--- src/lib.rt:268:1
 same-length : tie.Need-same-length
 same-length c = search needs
 
--- src/lib.rt:268:1
 returns : tie.Need-returns
 returns c = told-out _ _ _ _ _ (c .before .before .before .before .send .ensures) _ _ _ (c .before .before .before .before .before .before .before .resume .ensures) (rw (c .before .before .first-or .ensures, c .second-or .ensures))
 

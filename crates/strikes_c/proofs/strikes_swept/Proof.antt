@@ -3,23 +3,18 @@ use borrow.Author.Needs.{needs}
 use Rattle.strikes_c.proofs.strikes_swept.Statement.{statement}
 use Rattle.strikes_c.proofs.strikes_swept.Tie as tie
 
--- src/lib.rt:194:21
 swept-requires : tie.Need-swept-requires
 swept-requires c κs = search needs
 
--- src/lib.rt:194:9
 send-requires : tie.Need-send-requires
 send-requires c κs = search needs
 
--- src/lib.rt:195:15
 first-or-requires : tie.Need-first-or-requires
 first-or-requires c κs = search needs
 
--- src/lib.rt:196:18
 second-or-requires : tie.Need-second-or-requires
 second-or-requires c κs = search needs
 
--- src/lib.rt:190:1
 returns : tie.Need-returns
 returns c = read-out _ _ _ _ _ (c .before .before .before .before .send .ensures) _ _ (c .before .before .before .before .before .swept .ensures) (rw (c .before .before .first-or .ensures, c .second-or .ensures))
 

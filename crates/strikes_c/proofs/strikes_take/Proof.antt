@@ -6,23 +6,18 @@ use borrow.Author.Needs.{needs}
 use Rattle.strikes_c.proofs.strikes_take.Statement.{statement}
 use Rattle.strikes_c.proofs.strikes_take.Tie as tie
 
--- src/lib.rt:95:21
 take-requires : tie.Need-take-requires
 take-requires c κs = search needs
 
--- src/lib.rt:95:9
 send-requires : tie.Need-send-requires
 send-requires c κs = search needs
 
--- src/lib.rt:96:16
 first-or-requires : tie.Need-first-or-requires
 first-or-requires c κs = search needs
 
--- src/lib.rt:80:1
 same-length : tie.Need-same-length
 same-length c = search needs
 
--- src/lib.rt:80:1
 returns : tie.Need-returns
 returns c = told-out _ _ _ _ _ (c .before .before .send .ensures) _ _ _ (c .before .before .before .before .before .take .ensures) (ap (λ (v : ℕ). v ∷ []) (c .first-or .ensures))
 

@@ -6,23 +6,18 @@ use borrow.Author.Needs.{needs}
 use Rattle.strikes_c.proofs.strikes_take_batch.Statement.{statement}
 use Rattle.strikes_c.proofs.strikes_take_batch.Tie as tie
 
--- src/lib.rt:116:21
 take-batch-requires : tie.Need-take-batch-requires
 take-batch-requires c κs = search needs
 
--- src/lib.rt:116:9
 send-requires : tie.Need-send-requires
 send-requires c κs = search needs
 
--- src/lib.rt:117:16
 first-or-requires : tie.Need-first-or-requires
 first-or-requires c κs = search needs
 
--- src/lib.rt:101:1
 same-length : tie.Need-same-length
 same-length c = search needs
 
--- src/lib.rt:101:1
 returns : tie.Need-returns
 returns c = told-out _ _ _ _ _ (c .before .before .send .ensures) _ _ _ (c .before .before .before .before .before .take-batch .ensures) (ap (λ (v : ℕ). v ∷ []) (c .first-or .ensures))
 

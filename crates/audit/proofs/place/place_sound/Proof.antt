@@ -21,24 +21,24 @@ returns c =
     let a = c .before .before .before .before .before .before .args in
     place-bad (a .place .now) (a .class) (a .pairs) _ (c .before .before .before .kind-sound .ensures) (not-true _ (c .if1 .taken))
 
-sub-pairs-sound : tie.Need-sub-pairs-sound
-sub-pairs-sound c = search needs
+sub-are-sound : tie.Need-sub-are-sound
+sub-are-sound c = search needs
 
-part-pairs-sound-start : tie.Need-part-pairs-sound-start
-part-pairs-sound-start c = search needs
+part-are-sound-start : tie.Need-part-are-sound-start
+part-are-sound-start c = search needs
 
-part-pairs-sound-end : tie.Need-part-pairs-sound-end
-part-pairs-sound-end c = search needs
+part-are-sound-end : tie.Need-part-are-sound-end
+part-are-sound-end c = search needs
 
-pairs-sound-requires : tie.Need-pairs-sound-requires
-pairs-sound-requires c κs =
+are-sound-requires : tie.Need-are-sound-requires
+are-sound-requires c κs =
     let a = c .before .before .before .before .before .before .before .args in
     place-room (a .place .now) (a .class) (a .pairs) _ (c .before .before .before .before .kind-sound .ensures) (not-false _ (c .before .if1 .left)) (c .before .before .before .before .before .before .before .pre .1) (c .before .before .before .before .before .before .before .pre .0)
 
 returns-2 : tie.Need-returns-2
 returns-2 c =
     let a = c .before .before .before .before .before .before .before .before .args in
-    place-good (a .place .now) (a .class) (a .pairs) _ (c .before .before .before .before .before .kind-sound .ensures) (not-false _ (c .before .before .if1 .left)) (c .before .before .before .before .before .before .before .before .pre .1) _ (c .pairs-sound .ensures)
+    place-good (a .place .now) (a .class) (a .pairs) _ (c .before .before .before .before .before .kind-sound .ensures) (not-false _ (c .before .before .if1 .left)) (c .before .before .before .before .before .before .before .before .pre .1) _ (c .are-sound .ensures)
 
 pub place-sound-spec : {M : Type 1} → statement M
 place-sound-spec =
@@ -49,8 +49,8 @@ place-sound-spec =
     shared-slice-read-entries
     shared-slice-read-n
     returns
-    sub-pairs-sound
-    part-pairs-sound-start
-    part-pairs-sound-end
-    pairs-sound-requires
+    sub-are-sound
+    part-are-sound-start
+    part-are-sound-end
+    are-sound-requires
     returns-2)

@@ -1,13 +1,10 @@
-use Rattle.book.specs.Sums.{taken}
 use borrow.Author.Tests.{eq-eqb, ne-eqb}
 use Rattle.book.proofs.decide.if_none.Statement.{statement}
 use Rattle.book.proofs.decide.if_none.Tie as tie
 
--- src/decide.rt:14:9
 returns : tie.Need-returns
 returns c = rw (eq-eqb _ _ (c .if1 .taken))
 
--- src/decide.rt:10:1
 returns-2 : tie.Need-returns-2
 returns-2 c = rw (ne-eqb _ _ (c .if1 .left))
 

@@ -1,9 +1,6 @@
 use Rattle.book.proofs.Judging.{says-closed, says-share, says-within, says-class, says-equal, says-twice, says-room}
-use Rattle.book.specs.Pairs.{before}
-use Rattle.book.specs.Sums.{taken}
-use Rattle.model.specs.Book.{units, together, below-share}
+use Rattle.model.specs.Book.{together}
 use Rattle.model.specs.Class.{class-of}
-use Rattle.model.specs.Generation.{held}
 use borrow.Author.Needs.{needs}
 use borrow.Author.Tests.{not-true, not-false}
 use mathlib.Core.Path.{_≡_, ap, sym, _∙_}
@@ -11,57 +8,44 @@ use native.Mathlib.Omega.{arith}
 use Rattle.book.proofs.decide.judge.Statement.{statement}
 use Rattle.book.proofs.decide.judge.Tie as tie
 
--- src/decide.rt:116:9
 returns : tie.Need-returns
 returns c = let s = c .before .args in says-closed (s .limits) (s .closed) (s .who) (s .held) (s .own) (s .holders) (s .units) (s .room) (c .if1 .taken)
 
--- src/decide.rt:118:9
 below-share-requires : tie.Need-below-share-requires
 below-share-requires c κs = search needs
 
--- src/decide.rt:119:9
 returns-2 : tie.Need-returns-2
 returns-2 c = let s = c .before .before .before .args in says-share (s .limits) (s .closed) (s .who) (s .held) (s .own) (s .holders) (s .units) (s .room) (c .before .before .if1 .left) (sym (c .before .below-share .ensures) ∙ not-true _ (c .if2 .taken))
 
--- src/decide.rt:121:33
 class-of-requires : tie.Need-class-of-requires
 class-of-requires c κs = search needs
 
--- src/decide.rt:121:9
 class-limit-requires : tie.Need-class-limit-requires
 class-limit-requires c κs = search needs
 
--- src/decide.rt:123:9
 returns-3 : tie.Need-returns-3
 returns-3 c = let s = c .before .before .before .before .before .before .args in says-within (s .limits) (s .closed) (s .who) (s .held) (s .own) (s .holders) (s .units) (s .room) (c .before .before .before .before .before .if1 .left) (sym (c .before .before .before .before .below-share .ensures) ∙ not-false _ (c .before .before .before .if2 .left)) _ (c .before .class-limit .ensures ∙ ap (together (s .limits)) (c .before .before .class-of .ensures)) (c .if3 .taken)
 
--- src/decide.rt:125:9
 is-fair-requires : tie.Need-is-fair-requires
 is-fair-requires c κs = search needs
 
--- src/decide.rt:126:9
 returns-4 : tie.Need-returns-4
 returns-4 c = let s = c .before .before .before .before .before .before .before .before .args in says-class (s .limits) (s .closed) (s .who) (s .held) (s .own) (s .holders) (s .units) (s .room) (c .before .before .before .before .before .before .before .if1 .left) (sym (c .before .before .before .before .before .before .below-share .ensures) ∙ not-false _ (c .before .before .before .before .before .if2 .left)) _ (c .before .before .before .class-limit .ensures ∙ ap (together (s .limits)) (c .before .before .before .before .class-of .ensures)) (c .before .before .if3 .left) (sym (c .before .is-fair .ensures) ∙ not-true _ (c .if4 .taken))
 
--- src/decide.rt:128:8
 div-if5 : tie.Need-div-if5
 div-if5 c = search needs
 
--- src/decide.rt:129:9
 returns-5 : tie.Need-returns-5
 returns-5 c = let s = c .before .before .before .before .before .before .before .before .before .args in says-equal (s .limits) (s .closed) (s .who) (s .held) (s .own) (s .holders) (s .units) (s .room) (c .before .before .before .before .before .before .before .before .if1 .left) (sym (c .before .before .before .before .before .before .before .below-share .ensures) ∙ not-false _ (c .before .before .before .before .before .before .if2 .left)) _ (c .before .before .before .before .class-limit .ensures ∙ ap (together (s .limits)) (c .before .before .before .before .before .class-of .ensures)) (c .before .before .before .if3 .left) (sym (c .before .before .is-fair .ensures) ∙ not-false _ (c .before .if4 .left)) (c .if5 .taken)
 
--- src/decide.rt:131:8
 mul-if6 : tie.Need-mul-if6
 mul-if6 c = let s = c .before .before .before .before .before .before .before .before .before .args in
     let e : _ ≡ together (s .limits) (class-of (s .who)) = c .before .before .before .before .class-limit .ensures ∙ ap (together (s .limits)) (c .before .before .before .before .before .class-of .ensures) in
     omega arith
 
--- src/decide.rt:132:9
 returns-6 : tie.Need-returns-6
 returns-6 c = let s = c .before .before .before .before .before .before .before .before .before .before .args in says-twice (s .limits) (s .closed) (s .who) (s .held) (s .own) (s .holders) (s .units) (s .room) (c .before .before .before .before .before .before .before .before .before .if1 .left) (sym (c .before .before .before .before .before .before .before .before .below-share .ensures) ∙ not-false _ (c .before .before .before .before .before .before .before .if2 .left)) _ (c .before .before .before .before .before .class-limit .ensures ∙ ap (together (s .limits)) (c .before .before .before .before .before .before .class-of .ensures)) (c .before .before .before .before .if3 .left) (sym (c .before .before .before .is-fair .ensures) ∙ not-false _ (c .before .before .if4 .left)) (c .before .if5 .left) (c .if6 .taken)
 
--- src/decide.rt:111:1
 returns-7 : tie.Need-returns-7
 returns-7 c = let s = c .before .before .before .before .before .before .before .before .before .before .args in says-room (s .limits) (s .closed) (s .who) (s .held) (s .own) (s .holders) (s .units) (s .room) (c .before .before .before .before .before .before .before .before .before .if1 .left) (sym (c .before .before .before .before .before .before .before .before .below-share .ensures) ∙ not-false _ (c .before .before .before .before .before .before .before .if2 .left)) _ (c .before .before .before .before .before .class-limit .ensures ∙ ap (together (s .limits)) (c .before .before .before .before .before .before .class-of .ensures)) (c .before .before .before .before .if3 .left) (sym (c .before .before .before .is-fair .ensures) ∙ not-false _ (c .before .before .if4 .left)) (c .before .if5 .left) (c .if6 .left)
 

@@ -1,20 +1,15 @@
-use Rattle.book.specs.Pairs.{before}
 use Rattle.book.specs.Rules.{room-by}
-use Rattle.book.specs.Sums.{taken}
 use Rattle.book.proofs.decide.room.Statement.{statement}
 use Rattle.book.proofs.decide.room.Tie as tie
 
--- src/decide.rt:102:9
 returns : tie.Need-returns
 unfolding room-by
 returns c = rw (c .if1 .taken)
 
--- src/decide.rt:105:9
 returns-2 : tie.Need-returns-2
 unfolding room-by
 returns-2 c = rw (c .before .if1 .left, c .if2 .taken)
 
--- src/decide.rt:98:1
 returns-3 : tie.Need-returns-3
 unfolding room-by
 returns-3 c = rw (c .before .if1 .left, c .if2 .left)

@@ -1,18 +1,14 @@
 use Rattle.book.proofs.Judging.{shuts}
 use borrow.Author.Needs.{needs}
-use borrow.Author.Needs.{needs}
 use Rattle.book.proofs.front.close.Statement.{statement}
 use Rattle.book.proofs.front.close.Tie as tie
 
--- src/front.rt:28:5
 slice-write-front : tie.Need-slice-write-front
 slice-write-front c = search needs
 
--- src/front.rt:24:1
 same-length : tie.Need-same-length
 same-length c = search needs
 
--- src/front.rt:24:1
 returns : tie.Need-returns
 returns c = λ s. shuts _ s
 

@@ -1,30 +1,23 @@
 use Rattle.book.proofs.Judging.{reads-limits}
 use borrow.Author.Needs.{needs}
-use borrow.Author.Needs.{needs}
 use Rattle.book.proofs.front.kept_limits.Statement.{statement}
 use Rattle.book.proofs.front.kept_limits.Tie as tie
 
--- src/front.rt:37:17
 shared-slice-read-t3 : tie.Need-shared-slice-read-t3
 shared-slice-read-t3 c = search needs
 
--- src/front.rt:38:18
 shared-slice-read-t5 : tie.Need-shared-slice-read-t5
 shared-slice-read-t5 c = search needs
 
--- src/front.rt:39:15
 shared-slice-read-t7 : tie.Need-shared-slice-read-t7
 shared-slice-read-t7 c = search needs
 
--- src/front.rt:40:16
 shared-slice-read-t9 : tie.Need-shared-slice-read-t9
 shared-slice-read-t9 c = search needs
 
--- src/front.rt:41:16
 shared-slice-read-t11 : tie.Need-shared-slice-read-t11
 shared-slice-read-t11 c = search needs
 
--- src/front.rt:32:1
 returns : tie.Need-returns
 returns c = λ s. reads-limits _ s
 

@@ -2,35 +2,27 @@ use Rattle.book.proofs.Judging.{sets-limits}
 use borrow.Author.Needs.{needs}
 use lib.ListN.{length-set}
 use native.Mathlib.Omega.{arith}
-use borrow.Author.Needs.{needs}
 use Rattle.book.proofs.front.set_limits.Statement.{statement}
 use Rattle.book.proofs.front.set_limits.Tie as tie
 
--- src/front.rt:16:5
 slice-write-front : tie.Need-slice-write-front
 slice-write-front c = search needs
 
--- src/front.rt:17:5
 slice-write-front-2 : tie.Need-slice-write-front-2
 slice-write-front-2 c = simp length-set (omega arith)
 
--- src/front.rt:18:5
 slice-write-front-3 : tie.Need-slice-write-front-3
 slice-write-front-3 c = simp length-set (omega arith)
 
--- src/front.rt:19:5
 slice-write-front-4 : tie.Need-slice-write-front-4
 slice-write-front-4 c = simp length-set (omega arith)
 
--- src/front.rt:20:5
 slice-write-front-5 : tie.Need-slice-write-front-5
 slice-write-front-5 c = simp length-set (omega arith)
 
--- src/front.rt:12:1
 same-length : tie.Need-same-length
 same-length c = search needs
 
--- src/front.rt:12:1
 returns : tie.Need-returns
 returns c = λ s. sets-limits (c .args .limits) _ s
 

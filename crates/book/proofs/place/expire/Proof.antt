@@ -1,78 +1,58 @@
 use Rattle.book.proofs.PlaceTurns.{place-expires, tail-long, tail-sum, went}
-use Rattle.book.specs.Pairs.{before}
-use Rattle.model.specs.Book.{entries}
 use borrow.Author.Needs.{needs}
 use lib.ListN.{length-set}
 use native.Mathlib.Omega.{arith}
-use borrow.Author.Needs.{needs}
 use Rattle.book.proofs.place.expire.Statement.{statement}
 use Rattle.book.proofs.place.expire.Tie as tie
 
--- src/place.rt:153:15
 slice-read-sum : tie.Need-slice-read-sum
 slice-read-sum c = search needs
 
--- src/place.rt:154:13
 slice-read-n : tie.Need-slice-read-n
 slice-read-n c = search needs
 
--- src/place.rt:155:40
 sub-earlier : tie.Need-sub-earlier
 sub-earlier c = search needs
 
--- src/place.rt:155:40
 part-earlier-start : tie.Need-part-earlier-start
 part-earlier-start c = search needs
 
--- src/place.rt:155:40
 part-earlier-end : tie.Need-part-earlier-end
 part-earlier-end c = search needs
 
--- src/place.rt:155:9
 earlier-requires : tie.Need-earlier-requires
 earlier-requires c κs = let ws = c .before .before .before .before .before .args .place .now in let w = c .before .before .before .before .before .pre .0 in (w .few, tail-long ws w, tail-sum ws w)
 
--- src/place.rt:158:26
 sub-remove : tie.Need-sub-remove
 sub-remove c = search needs
 
--- src/place.rt:158:26
 part-remove-start : tie.Need-part-remove-start
 part-remove-start c = search needs
 
--- src/place.rt:158:26
 part-remove-end : tie.Need-part-remove-end
 part-remove-end c = search needs
 
--- src/place.rt:158:5
 remove-requires : tie.Need-remove-requires
 remove-requires c κs = let ws = c .before .before .before .before .before .before .before .args .place .now in let w = c .before .before .before .before .before .before .before .pre .0 in let g = went ws (c .before .before .before .before .before .before .before .args .t) _ (c .before .earlier .ensures) in (w .few, (let k = g .few in omega arith), tail-long ws w)
 
--- src/place.rt:159:16
 sub-place : tie.Need-sub-place
 sub-place c = let g = went (c .before .before .before .before .before .before .before .before .before .before .args .place .now) (c .before .before .before .before .before .before .before .before .before .before .args .t) _ (c .before .before .before .before .earlier .ensures) in omega arith
 
--- src/place.rt:159:5
 slice-write-place : tie.Need-slice-write-place
 slice-write-place c = search needs
 
--- src/place.rt:160:17
 sub-place-2 : tie.Need-sub-place-2
 sub-place-2 c = let g = went (c .before .before .before .before .before .before .before .before .before .before .args .place .now) (c .before .before .before .before .before .before .before .before .before .before .args .t) _ (c .before .before .before .before .earlier .ensures) in omega arith
 
--- src/place.rt:160:5
 slice-write-place-2 : tie.Need-slice-write-place-2
 slice-write-place-2 c = simp length-set (omega arith)
 
--- src/place.rt:162:16
 sub-t12 : tie.Need-sub-t12
 sub-t12 c = let g = went (c .before .before .before .before .before .before .before .before .before .before .args .place .now) (c .before .before .before .before .before .before .before .before .before .before .args .t) _ (c .before .before .before .before .earlier .ensures) in omega arith
 
--- src/place.rt:149:1
 same-length : tie.Need-same-length
 same-length c = search needs
 
--- src/place.rt:149:1
 returns : tie.Need-returns
 returns c = let s = c .before .before .before .before .before .before .before .before .before .before .args in
     let g = went (s .place .now) (s .t) _ (c .before .before .before .before .earlier .ensures) in

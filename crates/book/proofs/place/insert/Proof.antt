@@ -1,58 +1,43 @@
 use Rattle.book.proofs.PlaceTurns.{place-inserts}
-use Rattle.book.specs.Pairs.{before}
-use Rattle.model.specs.Generation.{insert}
 use borrow.Author.Needs.{needs}
 use lib.ListN.{length-set}
 use native.Mathlib.Omega.{arith}
-use borrow.Author.Needs.{needs}
 use Rattle.book.proofs.place.insert.Statement.{statement}
 use Rattle.book.proofs.place.insert.Tie as tie
 
--- src/place.rt:103:15
 slice-read-sum : tie.Need-slice-read-sum
 slice-read-sum c = search needs
 
--- src/place.rt:104:13
 slice-read-n : tie.Need-slice-read-n
 slice-read-n c = search needs
 
--- src/place.rt:105:26
 sub-insert : tie.Need-sub-insert
 sub-insert c = search needs
 
--- src/place.rt:105:26
 part-insert-start : tie.Need-part-insert-start
 part-insert-start c = search needs
 
--- src/place.rt:105:26
 part-insert-end : tie.Need-part-insert-end
 part-insert-end c = search needs
 
--- src/place.rt:105:5
 insert-requires : tie.Need-insert-requires
 insert-requires c κs = search needs
 
--- src/place.rt:106:16
 add-place : tie.Need-add-place
 add-place c = search needs
 
--- src/place.rt:106:5
 slice-write-place : tie.Need-slice-write-place
 slice-write-place c = search needs
 
--- src/place.rt:107:16
 add-place-2 : tie.Need-add-place-2
 add-place-2 c = search needs
 
--- src/place.rt:107:5
 slice-write-place-2 : tie.Need-slice-write-place-2
 slice-write-place-2 c = simp length-set (omega arith)
 
--- src/place.rt:99:1
 same-length : tie.Need-same-length
 same-length c = search needs
 
--- src/place.rt:99:1
 returns : tie.Need-returns
 returns c = place-inserts (c .before .before .before .before .before .before .before .args .place .now) _ (c .before .before .before .before .before .before .before .args .k) (c .before .before .before .before .before .before .before .args .second) (c .before .before .insert .ensures)
 

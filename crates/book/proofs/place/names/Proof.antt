@@ -1,38 +1,28 @@
-use Rattle.book.specs.Pairs.{before}
-use borrow.Author.Needs.{needs}
 use borrow.Author.Needs.{needs}
 use Rattle.book.proofs.place.names.Statement.{statement}
 use Rattle.book.proofs.place.names.Tie as tie
 
--- src/place.rt:18:27
 enum-known-who : tie.Need-enum-known-who
 enum-known-who c = search needs
 
--- src/place.rt:19:25
 enum-known-who-2 : tie.Need-enum-known-who-2
 enum-known-who-2 c = search needs
 
--- src/place.rt:20:29
 enum-told : tie.Need-enum-told
 enum-told c = search needs
 
--- src/place.rt:21:35
 enum-told-2 : tie.Need-enum-told-2
 enum-told-2 c = search needs
 
--- src/place.rt:14:1
 returns : tie.Need-returns
 returns c = rw (c .before .who .given .1)
 
--- src/place.rt:14:1
 returns-2 : tie.Need-returns-2
 returns-2 c = rw (c .before .who2 .given .1)
 
--- src/place.rt:14:1
 returns-3 : tie.Need-returns-3
 returns-3 c = rw (c .enum-told .given .1)
 
--- src/place.rt:14:1
 returns-4 : tie.Need-returns-4
 returns-4 c = rw (c .enum-told2 .given .1)
 

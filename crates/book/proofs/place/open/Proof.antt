@@ -1,51 +1,49 @@
-use Rattle.book.proofs.PlaceTurns.{opens}
-use Rattle.book.specs.Pairs.{before}
-use borrow.Author.Needs.{needs}
-use lib.ListN.{length-set}
+use mathlib.Core.Path.{_∙_}
 use native.Mathlib.Omega.{arith}
+use lib.ListN.{length-set}
 use borrow.Author.Needs.{needs}
+use Rattle.book.proofs.PlaceTurns.{new-head, head-long, head-room, opens}
 use Rattle.book.proofs.place.open.Statement.{statement}
 use Rattle.book.proofs.place.open.Tie as tie
 
--- src/place.rt:79:16
 kind-word-requires : tie.Need-kind-word-requires
 kind-word-requires c κs = search needs
 
--- src/place.rt:79:5
 slice-write-place : tie.Need-slice-write-place
 slice-write-place c = search needs
 
--- src/place.rt:80:16
 id-word-requires : tie.Need-id-word-requires
 id-word-requires c κs = search needs
 
--- src/place.rt:80:5
 slice-write-place-2 : tie.Need-slice-write-place-2
 slice-write-place-2 c = simp length-set (omega arith)
 
--- src/place.rt:81:5
 slice-write-place-3 : tie.Need-slice-write-place-3
 slice-write-place-3 c = simp length-set (omega arith)
 
--- src/place.rt:82:5
 slice-write-place-4 : tie.Need-slice-write-place-4
 slice-write-place-4 c = simp length-set (omega arith)
 
--- src/place.rt:83:5
-slice-write-place-5 : tie.Need-slice-write-place-5
-slice-write-place-5 c = simp length-set (omega arith)
+sub-insert : tie.Need-sub-insert
+sub-insert c = simp length-set (omega arith)
 
--- src/place.rt:84:5
-slice-write-place-6 : tie.Need-slice-write-place-6
-slice-write-place-6 c = search needs
+part-insert-start : tie.Need-part-insert-start
+part-insert-start c = simp length-set (omega arith)
 
--- src/place.rt:75:1
+part-insert-end : tie.Need-part-insert-end
+part-insert-end c = search needs
+
+insert-requires : tie.Need-insert-requires
+insert-requires c κs = let s = c .before .before .before .before .args in (omega arith, omega arith, head-room (c .before .before .kind-word .result) (c .before .id-word .result) (s .place .now) (c .before .before .before .before .pre))
+
 same-length : tie.Need-same-length
-same-length c = search needs
+same-length c = let s = c .before .before .before .before .before .before .before .args in c .before .place .given .1 ∙ head-long (c .before .before .before .before .before .kind-word .result) (c .before .before .before .before .id-word .result) (s .place .now)
 
--- src/place.rt:75:1
 returns : tie.Need-returns
-returns c = let s = c .before .before .before .args in opens (s .who) (s .second) _ _ (s .place .now) (omega arith) (c .before .kind-word .ensures) (c .id-word .ensures)
+returns c =
+    let s = c .before .before .before .before .before .before .before .args in
+    let h = new-head (s .who) _ _ (s .place .now) (omega arith) (c .before .before .before .before .before .kind-word .ensures) (c .before .before .before .before .id-word .ensures) in
+    opens (s .who) (s .second) (s .place .now) _ _ (omega arith) h (c .before .before .insert .ensures)
 
 pub open-spec : {M : Type 1} → statement M
 open-spec =
@@ -57,7 +55,9 @@ open-spec =
     slice-write-place-2
     slice-write-place-3
     slice-write-place-4
-    slice-write-place-5
-    slice-write-place-6
+    sub-insert
+    part-insert-start
+    part-insert-end
+    insert-requires
     same-length
     returns)

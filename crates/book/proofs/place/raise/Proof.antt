@@ -1,48 +1,35 @@
-use Rattle.book.proofs.PlaceTurns.{place-raises, tail-word, tail-long}
-use Rattle.book.specs.Pairs.{before}
-use Rattle.model.specs.Numbers.{raise}
-use borrow.Author.Needs.{needs}
+use Rattle.book.proofs.PlaceTurns.{place-raises, tail-is, tail-long}
 use borrow.Author.Needs.{needs}
 use Rattle.book.proofs.place.raise.Statement.{statement}
 use Rattle.book.proofs.place.raise.Tie as tie
 
--- src/place.rt:92:15
 slice-read-sum : tie.Need-slice-read-sum
 slice-read-sum c = search needs
 
--- src/place.rt:93:13
 slice-read-n : tie.Need-slice-read-n
 slice-read-n c = search needs
 
--- src/place.rt:94:25
 sub-raise : tie.Need-sub-raise
 sub-raise c = search needs
 
--- src/place.rt:94:25
 part-raise-start : tie.Need-part-raise-start
 part-raise-start c = search needs
 
--- src/place.rt:94:25
 part-raise-end : tie.Need-part-raise-end
 part-raise-end c = search needs
 
--- src/place.rt:94:5
 raise-requires : tie.Need-raise-requires
-raise-requires c κs = let ws = c .before .before .before .before .args .place .now in let w = c .before .before .before .before .pre in (w .0 .few, w .1, tail-long ws (w .0), rw (tail-word ws) (w .2))
+raise-requires c κs = let ws = c .before .before .before .before .args .place .now in let w = c .before .before .before .before .pre in (w .0 .few, w .1, tail-long ws (w .0), rw (tail-is ws) (w .2))
 
--- src/place.rt:95:16
 add-place : tie.Need-add-place
 add-place c = search needs
 
--- src/place.rt:95:5
 slice-write-place : tie.Need-slice-write-place
 slice-write-place c = search needs
 
--- src/place.rt:88:1
 same-length : tie.Need-same-length
 same-length c = search needs
 
--- src/place.rt:88:1
 returns : tie.Need-returns
 returns c = place-raises (c .before .before .before .before .before .before .before .args .place .now) _ (c .before .before .before .before .before .before .before .args .k) (c .before .before .raise .ensures)
 

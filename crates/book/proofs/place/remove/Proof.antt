@@ -1,57 +1,43 @@
 use Rattle.book.proofs.PlaceTurns.{place-removes}
-use Rattle.book.specs.Pairs.{before}
 use borrow.Author.Needs.{needs}
 use lib.ListN.{length-set}
 use native.Mathlib.Omega.{arith}
-use borrow.Author.Needs.{needs}
 use Rattle.book.proofs.place.remove.Statement.{statement}
 use Rattle.book.proofs.place.remove.Tie as tie
 
--- src/place.rt:135:15
 slice-read-sum : tie.Need-slice-read-sum
 slice-read-sum c = search needs
 
--- src/place.rt:136:13
 slice-read-n : tie.Need-slice-read-n
 slice-read-n c = search needs
 
--- src/place.rt:137:26
 sub-remove : tie.Need-sub-remove
 sub-remove c = search needs
 
--- src/place.rt:137:26
 part-remove-start : tie.Need-part-remove-start
 part-remove-start c = search needs
 
--- src/place.rt:137:26
 part-remove-end : tie.Need-part-remove-end
 part-remove-end c = search needs
 
--- src/place.rt:137:5
 remove-requires : tie.Need-remove-requires
 remove-requires c κs = search needs
 
--- src/place.rt:138:16
 sub-place : tie.Need-sub-place
 sub-place c = search needs
 
--- src/place.rt:138:5
 slice-write-place : tie.Need-slice-write-place
 slice-write-place c = search needs
 
--- src/place.rt:139:16
 sub-place-2 : tie.Need-sub-place-2
 sub-place-2 c = search needs
 
--- src/place.rt:139:5
 slice-write-place-2 : tie.Need-slice-write-place-2
 slice-write-place-2 c = simp length-set (omega arith)
 
--- src/place.rt:131:1
 same-length : tie.Need-same-length
 same-length c = search needs
 
--- src/place.rt:131:1
 returns : tie.Need-returns
 returns c = place-removes (c .before .before .before .before .before .before .before .args .place .now) _ (c .before .before .before .before .before .before .before .args .k) (c .before .before .remove .ensures)
 

@@ -5,27 +5,21 @@ use native.Mathlib.Omega.{arith}
 use Rattle.book.proofs.totals.write.Statement.{statement}
 use Rattle.book.proofs.totals.write.Tie as tie
 
--- src/totals.rt:33:5
 slice-write-part : tie.Need-slice-write-part
 slice-write-part c = search needs
 
--- src/totals.rt:34:5
 slice-write-part-2 : tie.Need-slice-write-part-2
 slice-write-part-2 c = simp length-set (omega arith)
 
--- src/totals.rt:35:5
 slice-write-part-3 : tie.Need-slice-write-part-3
 slice-write-part-3 c = simp length-set (omega arith)
 
--- src/totals.rt:36:5
 slice-write-part-4 : tie.Need-slice-write-part-4
 slice-write-part-4 c = search needs
 
--- src/totals.rt:29:1
 same-length : tie.Need-same-length
 same-length c = search needs
 
--- src/totals.rt:29:1
 returns : tie.Need-returns
 returns c = let s = c .args in stored-four (s .part .now) _ _ _ _ (omega arith)
 

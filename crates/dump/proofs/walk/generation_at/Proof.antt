@@ -6,23 +6,18 @@ use borrow.Author.Needs.{needs}
 use Rattle.dump.proofs.walk.generation_at.Statement.{statement}
 use Rattle.dump.proofs.walk.generation_at.Tie as tie
 
--- src/walk.rt:110:9
 read-requires : tie.Need-read-requires
 read-requires c κs = search needs
 
--- src/walk.rt:111:9
 read-requires-2 : tie.Need-read-requires-2
 read-requires-2 c κs = search needs
 
--- src/walk.rt:112:9
 read-requires-3 : tie.Need-read-requires-3
 read-requires-3 c κs = search needs
 
--- src/walk.rt:118:15
 add-t8 : tie.Need-add-t8
 add-t8 c = let t = three-read (words-of (c .before .before .before .before .before .args .bytes .now)) (c .before .before .before .before .before .args .at) _ _ _ (c .before .before .before .read .ensures) (c .before .before .read2 .ensures) (c .before .read3 .ensures) in let w = t .1 in let n = t .2 in let h = c .before .before .before .before .before .pre in record { fits = omega arith }
 
--- src/walk.rt:106:1
 returns : tie.Need-returns
 returns c = let t = three-read (words-of (c .before .before .before .before .before .args .bytes .now)) (c .before .before .before .before .before .args .at) _ _ _ (c .before .before .before .read .ensures) (c .before .before .read2 .ensures) (c .before .read3 .ensures) in let w = t .1 in let n = t .2 in record { bucket = c .before .before .before .read .ensures .0; newest = t .0; length = t .1; next = omega arith }
 

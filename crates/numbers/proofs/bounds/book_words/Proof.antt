@@ -3,19 +3,15 @@ use native.Mathlib.Omega.{arith}
 use Rattle.numbers.proofs.bounds.book_words.Statement.{statement}
 use Rattle.numbers.proofs.bounds.book_words.Tie as tie
 
--- src/bounds.rt:200:17
 place-width-requires : tie.Need-place-width-requires
 place-width-requires c κs = shares-few (c .args .b) (c .pre) .pairs
 
--- src/bounds.rt:201:5
 mul-result : tie.Need-mul-result
 mul-result c = let k = shares-few (c .before .before .args .b) (c .before .before .pre) in let w = book-some (c .before .before .args .b) (c .before .before .pre) _ (c .before .place-width .ensures .0) .1 in omega arith
 
--- src/bounds.rt:201:5
 mul-result-2 : tie.Need-mul-result-2
 mul-result-2 c = let k = shares-few (c .before .before .args .b) (c .before .before .pre) in let w = book-some (c .before .before .args .b) (c .before .before .pre) _ (c .before .place-width .ensures .0) .1 in omega arith
 
--- src/bounds.rt:196:1
 returns : tie.Need-returns
 returns c = book-some (c .before .before .args .b) (c .before .before .pre) _ (c .before .place-width .ensures .0)
 

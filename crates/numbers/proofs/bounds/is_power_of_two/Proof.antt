@@ -3,7 +3,6 @@ use Rattle.model.specs.Settings.{power-of-two}
 use Rattle.numbers.proofs.bounds.is_power_of_two.Statement.{statement}
 use Rattle.numbers.proofs.bounds.is_power_of_two.Tie as tie
 
--- src/bounds.rt:95:1
 returns : tie.Need-returns
 unfolding power-of-two
 returns c = refl

@@ -3,7 +3,6 @@ use Rattle.model.specs.Settings.{limits-fit}
 use Rattle.numbers.proofs.bounds.limits_fit.Statement.{statement}
 use Rattle.numbers.proofs.bounds.limits_fit.Tie as tie
 
--- src/bounds.rt:130:1
 returns : tie.Need-returns
 unfolding limits-fit
 returns c = refl

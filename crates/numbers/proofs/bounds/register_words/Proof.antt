@@ -4,23 +4,18 @@ use borrow.Author.Needs.{needs}
 use Rattle.numbers.proofs.bounds.register_words.Statement.{statement}
 use Rattle.numbers.proofs.bounds.register_words.Tie as tie
 
--- src/bounds.rt:179:9
 ring-of-requires : tie.Need-ring-of-requires
 ring-of-requires c κs = search needs
 
--- src/bounds.rt:180:5
 mul-result : tie.Need-mul-result
 mul-result c = let k = usable-few (c .before .args .u) (c .before .pre) in let e = c .ring-of .ensures in omega arith
 
--- src/bounds.rt:180:17
 add-result : tie.Need-add-result
 add-result c = let k = usable-few (c .before .before .args .u) (c .before .before .pre) in let e = c .before .ring-of .ensures in omega arith
 
--- src/bounds.rt:180:5
 mul-result-2 : tie.Need-mul-result-2
 mul-result-2 c = let k = register-some (c .before .before .args .u) (c .before .before .pre) _ (c .before .ring-of .ensures) in omega (arith, k .1)
 
--- src/bounds.rt:175:1
 returns : tie.Need-returns
 returns c = register-some (c .before .before .args .u) (c .before .before .pre) _ (c .before .ring-of .ensures)
 

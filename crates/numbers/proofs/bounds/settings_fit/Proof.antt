@@ -3,27 +3,21 @@ use borrow.Author.Needs.{needs}
 use Rattle.numbers.proofs.bounds.settings_fit.Statement.{statement}
 use Rattle.numbers.proofs.bounds.settings_fit.Tie as tie
 
--- src/bounds.rt:158:9
 shares-fit-requires : tie.Need-shares-fit-requires
 shares-fit-requires c κs = search needs
 
--- src/bounds.rt:159:9
 fits-at-requires : tie.Need-fits-at-requires
 fits-at-requires c κs = search needs
 
--- src/bounds.rt:160:9
 fits-at-requires-2 : tie.Need-fits-at-requires-2
 fits-at-requires-2 c κs = search needs
 
--- src/bounds.rt:161:9
 fits-at-requires-3 : tie.Need-fits-at-requires-3
 fits-at-requires-3 c κs = search needs
 
--- src/bounds.rt:162:9
 fits-at-requires-4 : tie.Need-fits-at-requires-4
 fits-at-requires-4 c κs = search needs
 
--- src/bounds.rt:155:1
 returns : tie.Need-returns
 unfolding settings-fit
 returns c = rw (c .before .before .fits-at4 .ensures, c .before .before .before .fits-at3 .ensures, c .before .before .before .before .fits-at2 .ensures, c .before .before .before .before .before .fits-at .ensures, c .before .before .before .before .before .before .shares-fit .ensures)

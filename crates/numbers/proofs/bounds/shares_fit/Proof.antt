@@ -3,7 +3,6 @@ use Rattle.model.specs.Settings.{shares-fit}
 use Rattle.numbers.proofs.bounds.shares_fit.Statement.{statement}
 use Rattle.numbers.proofs.bounds.shares_fit.Tie as tie
 
--- src/bounds.rt:123:1
 returns : tie.Need-returns
 unfolding shares-fit
 returns c = refl

@@ -3,23 +3,18 @@ use borrow.Author.Needs.{needs}
 use Rattle.numbers.proofs.bounds.usable_below.Statement.{statement}
 use Rattle.numbers.proofs.bounds.usable_below.Tie as tie
 
--- src/bounds.rt:64:21
 shared-slice-read-if1 : tie.Need-shared-slice-read-if1
 shared-slice-read-if1 c = search needs
 
--- src/bounds.rt:65:9
 usable-of-requires : tie.Need-usable-of-requires
 usable-of-requires c κs = search needs
 
--- src/bounds.rt:65:9
 returns : tie.Need-returns
 returns c = rw (c .usable-of .ensures, lt-ltb _ _ (c .before .if1 .taken))
 
--- src/bounds.rt:67:5
 no-usable-requires : tie.Need-no-usable-requires
 no-usable-requires c κs = search needs
 
--- src/bounds.rt:60:1
 returns-2 : tie.Need-returns-2
 returns-2 c = rw (c .no-usable .ensures, le-ltb _ _ (c .before .if1 .left))
 

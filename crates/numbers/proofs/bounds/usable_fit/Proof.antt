@@ -3,23 +3,18 @@ use borrow.Author.Needs.{needs}
 use Rattle.numbers.proofs.bounds.usable_fit.Statement.{statement}
 use Rattle.numbers.proofs.bounds.usable_fit.Tie as tie
 
--- src/bounds.rt:116:9
 window-fit-requires : tie.Need-window-fit-requires
 window-fit-requires c κs = search needs
 
--- src/bounds.rt:117:9
 window-fit-requires-2 : tie.Need-window-fit-requires-2
 window-fit-requires-2 c κs = search needs
 
--- src/bounds.rt:118:9
 is-power-of-two-requires : tie.Need-is-power-of-two-requires
 is-power-of-two-requires c κs = search needs
 
--- src/bounds.rt:119:9
 ring-of-requires : tie.Need-ring-of-requires
 ring-of-requires c κs = search needs
 
--- src/bounds.rt:113:1
 returns : tie.Need-returns
 unfolding usable-fit
 returns c = rw (c .before .before .ring-of .ensures, c .before .before .before .is-power-of-two .ensures, c .before .before .before .before .window-fit2 .ensures, c .before .before .before .before .before .window-fit .ensures)

@@ -3,7 +3,6 @@ use Rattle.model.specs.Settings.{window-fit}
 use Rattle.numbers.proofs.bounds.window_fit.Statement.{statement}
 use Rattle.numbers.proofs.bounds.window_fit.Tie as tie
 
--- src/bounds.rt:107:1
 returns : tie.Need-returns
 unfolding window-fit
 returns c = refl

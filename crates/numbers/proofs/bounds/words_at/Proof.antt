@@ -5,19 +5,15 @@ use borrow.Author.Needs.{needs}
 use Rattle.numbers.proofs.bounds.words_at.Statement.{statement}
 use Rattle.numbers.proofs.bounds.words_at.Tie as tie
 
--- src/bounds.rt:189:9
 returns : tie.Need-returns
 returns c = (rw (le-leb _ _ (c .if1 .taken)), omega arith)
 
--- src/bounds.rt:191:20
 usable-in-requires : tie.Need-usable-in-requires
 usable-in-requires c κs = search needs
 
--- src/bounds.rt:191:5
 register-words-requires : tie.Need-register-words-requires
 register-words-requires c κs = rw (c .usable-in .ensures) (fit-usable (c .before .before .before .args .s) (c .before .before .before .args .r) (c .before .before .before .pre .1) (c .before .if1 .left))
 
--- src/bounds.rt:184:1
 returns-2 : tie.Need-returns-2
 returns-2 c = let e = c .register-words .ensures in (rw (lt-leb _ _ (c .before .before .if1 .left), fit-usable (c .before .before .before .before .args .s) (c .before .before .before .before .args .r) (c .before .before .before .before .pre .1) (c .before .before .if1 .left), e .0, c .before .usable-in .ensures), e .1)
 

@@ -1,65 +1,20 @@
-use Rattle.model.proofs.Bounds.{fit-shares}
-use Rattle.numbers.proofs.Needed.{needed-is}
+use mathlib.Core.Path.{sym, _∙_}
 use borrow.Author.Needs.{needs}
+use borrow.Author.Tests.{not-true, not-false}
 use Rattle.numbers.proofs.bounds.words_needed.Statement.{statement}
 use Rattle.numbers.proofs.bounds.words_needed.Tie as tie
 
--- src/bounds.rt:207:9
-words-at-requires : tie.Need-words-at-requires
-words-at-requires c κs = search needs
+settings-fit-requires : tie.Need-settings-fit-requires
+settings-fit-requires c κs = search needs
 
--- src/bounds.rt:208:9
-words-at-requires-2 : tie.Need-words-at-requires-2
-words-at-requires-2 c κs = search needs
-
--- src/bounds.rt:209:9
-words-at-requires-3 : tie.Need-words-at-requires-3
-words-at-requires-3 c κs = search needs
-
--- src/bounds.rt:210:9
-words-at-requires-4 : tie.Need-words-at-requires-4
-words-at-requires-4 c κs = search needs
-
--- src/bounds.rt:211:9
-book-words-requires : tie.Need-book-words-requires
-book-words-requires c κs = fit-shares (c .before .before .before .before .args .s) (c .before .before .before .before .pre)
-
--- src/bounds.rt:212:5
-add-result : tie.Need-add-result
-add-result c = search needs
-
--- src/bounds.rt:212:5
-add-result-2 : tie.Need-add-result-2
-add-result-2 c = search needs
-
--- src/bounds.rt:212:5
-add-result-3 : tie.Need-add-result-3
-add-result-3 c = search needs
-
--- src/bounds.rt:212:5
-add-result-4 : tie.Need-add-result-4
-add-result-4 c = search needs
-
--- src/bounds.rt:212:5
-add-result-5 : tie.Need-add-result-5
-add-result-5 c = search needs
-
--- src/bounds.rt:203:1
 returns : tie.Need-returns
-returns c = rw (c .before .before .before .before .words-at .ensures .0, c .before .before .before .words-at2 .ensures .0, c .before .before .words-at3 .ensures .0, c .before .words-at4 .ensures .0) (needed-is (c .before .before .before .before .before .args .s) (c .before .before .before .before .before .pre) _ (c .book-words .ensures .0))
+returns c = rw (sym (c .before .settings-fit .ensures) ∙ not-true _ (c .if1 .taken))
+
+words-in-bounds-requires : tie.Need-words-in-bounds-requires
+words-in-bounds-requires c κs = sym (c .before .settings-fit .ensures) ∙ not-false _ (c .if1 .left)
+
+returns-2 : tie.Need-returns-2
+returns-2 c = rw (sym (c .before .before .settings-fit .ensures) ∙ not-false _ (c .before .if1 .left)) (c .words-in-bounds .ensures)
 
 pub words-needed-spec : {M : Type 1} → statement M
-words-needed-spec =
-    tie.close
-    (tie.spec
-    words-at-requires
-    words-at-requires-2
-    words-at-requires-3
-    words-at-requires-4
-    book-words-requires
-    add-result
-    add-result-2
-    add-result-3
-    add-result-4
-    add-result-5
-    returns)
+words-needed-spec = tie.close (tie.spec settings-fit-requires returns words-in-bounds-requires returns-2)

@@ -4,19 +4,15 @@ use borrow.Author.Needs.{needs}
 use Rattle.numbers.proofs.capped.capped_add.Statement.{statement}
 use Rattle.numbers.proofs.capped.capped_add.Tie as tie
 
--- src/capped.rt:12:13
 sub-if1 : tie.Need-sub-if1
 sub-if1 c = search needs
 
--- src/capped.rt:13:16
 add-result : tie.Need-add-result
 add-result c = search needs
 
--- src/capped.rt:13:9
 returns : tie.Need-returns
 returns c = uncapped _ (omega arith)
 
--- src/capped.rt:9:1
 returns-2 : tie.Need-returns-2
 returns-2 c = capped _ (omega arith)
 

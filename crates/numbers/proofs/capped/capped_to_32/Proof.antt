@@ -3,12 +3,10 @@ use Rattle.model.specs.Numbers.{cap32}
 use Rattle.numbers.proofs.capped.capped_to_32.Statement.{statement}
 use Rattle.numbers.proofs.capped.capped_to_32.Tie as tie
 
--- src/capped.rt:34:9
 returns : tie.Need-returns
 unfolding cap32
 returns c = omega arith
 
--- src/capped.rt:30:1
 returns-2 : tie.Need-returns-2
 unfolding cap32
 returns-2 c = omega arith

@@ -3,17 +3,14 @@ use borrow.Author.Tests.{eq-eqb, ne-eqb}
 use Rattle.numbers.proofs.codes.class_at.Statement.{statement}
 use Rattle.numbers.proofs.codes.class_at.Tie as tie
 
--- src/codes.rt:23:9
 returns : tie.Need-returns
 unfolding class-at
 returns c = simp (eq-eqb _ _ (c .if1 .taken))
 
--- src/codes.rt:26:9
 returns-2 : tie.Need-returns-2
 unfolding class-at
 returns-2 c = simp (ne-eqb _ _ (c .before .if1 .left), eq-eqb _ _ (c .if2 .taken))
 
--- src/codes.rt:19:1
 returns-3 : tie.Need-returns-3
 unfolding class-at
 returns-3 c = simp (ne-eqb _ _ (c .before .if1 .left), ne-eqb _ _ (c .if2 .left))

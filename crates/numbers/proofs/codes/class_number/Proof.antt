@@ -3,29 +3,23 @@ use borrow.Author.Needs.{needs}
 use Rattle.numbers.proofs.codes.class_number.Statement.{statement}
 use Rattle.numbers.proofs.codes.class_number.Tie as tie
 
--- src/codes.rt:35:27
 enum-told : tie.Need-enum-told
 enum-told c = search needs
 
--- src/codes.rt:36:25
 enum-told-2 : tie.Need-enum-told-2
 enum-told-2 c = search needs
 
--- src/codes.rt:37:23
 enum-told-3 : tie.Need-enum-told-3
 enum-told-3 c = search needs
 
--- src/codes.rt:31:1
 returns : tie.Need-returns
 unfolding class-number
 returns c = rw (c .enum-told .given .1)
 
--- src/codes.rt:31:1
 returns-2 : tie.Need-returns-2
 unfolding class-number
 returns-2 c = rw (c .enum-told2 .given .1)
 
--- src/codes.rt:31:1
 returns-3 : tie.Need-returns-3
 unfolding class-number
 returns-3 c = rw (c .enum-told3 .given .1)

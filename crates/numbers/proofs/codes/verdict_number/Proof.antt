@@ -3,56 +3,44 @@ use borrow.Author.Needs.{needs}
 use Rattle.numbers.proofs.codes.verdict_number.Statement.{statement}
 use Rattle.numbers.proofs.codes.verdict_number.Tie as tie
 
--- src/codes.rt:106:25
 enum-told : tie.Need-enum-told
 enum-told c = search needs
 
--- src/codes.rt:107:31
 enum-told-2 : tie.Need-enum-told-2
 enum-told-2 c = search needs
 
--- src/codes.rt:108:26
 enum-told-3 : tie.Need-enum-told-3
 enum-told-3 c = search needs
 
--- src/codes.rt:109:27
 enum-told-4 : tie.Need-enum-told-4
 enum-told-4 c = search needs
 
--- src/codes.rt:110:26
 enum-told-5 : tie.Need-enum-told-5
 enum-told-5 c = search needs
 
--- src/codes.rt:111:30
 enum-told-6 : tie.Need-enum-told-6
 enum-told-6 c = search needs
 
--- src/codes.rt:102:1
 returns : tie.Need-returns
 unfolding verdict-number
 returns c = rw (c .enum-told .given .1)
 
--- src/codes.rt:102:1
 returns-2 : tie.Need-returns-2
 unfolding verdict-number
 returns-2 c = rw (c .enum-told2 .given .1)
 
--- src/codes.rt:102:1
 returns-3 : tie.Need-returns-3
 unfolding verdict-number
 returns-3 c = rw (c .enum-told3 .given .1)
 
--- src/codes.rt:102:1
 returns-4 : tie.Need-returns-4
 unfolding verdict-number
 returns-4 c = rw (c .enum-told4 .given .1)
 
--- src/codes.rt:102:1
 returns-5 : tie.Need-returns-5
 unfolding verdict-number
 returns-5 c = rw (c .enum-told5 .given .1)
 
--- src/codes.rt:102:1
 returns-6 : tie.Need-returns-6
 unfolding verdict-number
 returns-6 c = rw (c .enum-told6 .given .1)

@@ -3,11 +3,9 @@ use borrow.Author.Needs.{needs}
 use Rattle.numbers.proofs.spans.ahead.Statement.{statement}
 use Rattle.numbers.proofs.spans.ahead.Tie as tie
 
--- src/spans.rt:22:5
 larger-requires : tie.Need-larger-requires
 larger-requires c κs = search needs
 
--- src/spans.rt:19:1
 returns : tie.Need-returns
 unfolding ahead
 returns c = c .larger .ensures

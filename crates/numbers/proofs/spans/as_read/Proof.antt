@@ -3,11 +3,9 @@ use borrow.Author.Needs.{needs}
 use Rattle.numbers.proofs.spans.as_read.Statement.{statement}
 use Rattle.numbers.proofs.spans.as_read.Tie as tie
 
--- src/spans.rt:102:5
 larger-requires : tie.Need-larger-requires
 larger-requires c κs = search needs
 
--- src/spans.rt:99:1
 returns : tie.Need-returns
 unfolding as-read
 returns c = c .larger .ensures

@@ -3,19 +3,15 @@ use borrow.Author.Needs.{needs}
 use Rattle.numbers.proofs.spans.bucket_of.Statement.{statement}
 use Rattle.numbers.proofs.spans.bucket_of.Tie as tie
 
--- src/spans.rt:37:57
 retained-requires : tie.Need-retained-requires
 retained-requires c κs = search needs
 
--- src/spans.rt:37:30
 capped-add-requires : tie.Need-capped-add-requires
 capped-add-requires c κs = search needs
 
--- src/spans.rt:37:12
 ceil-div-requires : tie.Need-ceil-div-requires
 ceil-div-requires c κs = search needs
 
--- src/spans.rt:34:1
 returns : tie.Need-returns
 unfolding bucket-of
 returns c = rw (c .ceil-div .ensures, c .before .capped-add .ensures, c .before .before .retained .ensures)

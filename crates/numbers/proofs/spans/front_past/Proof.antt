@@ -3,15 +3,12 @@ use borrow.Author.Needs.{needs}
 use Rattle.numbers.proofs.spans.front_past.Statement.{statement}
 use Rattle.numbers.proofs.spans.front_past.Tie as tie
 
--- src/spans.rt:93:9
 returns : tie.Need-returns
 returns c = front-not (c .before .args .w) (c .before .args .stamp) ((c .before .args .now) .0) (c .if1 .taken)
 
--- src/spans.rt:95:15
 sub-result : tie.Need-sub-result
 sub-result c = search needs
 
--- src/spans.rt:88:1
 returns-2 : tie.Need-returns-2
 returns-2 c = front-by (c .before .before .args .w) (c .before .before .args .stamp) ((c .before .before .args .now) .0) (c .before .if1 .left)
 

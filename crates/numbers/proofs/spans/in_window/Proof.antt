@@ -3,15 +3,12 @@ use borrow.Author.Needs.{needs}
 use Rattle.numbers.proofs.spans.in_window.Statement.{statement}
 use Rattle.numbers.proofs.spans.in_window.Tie as tie
 
--- src/spans.rt:82:9
 returns : tie.Need-returns
 returns c = window-behind (c .before .before .args .w) (c .before .before .args .stamp) ((c .before .before .args .now) .0) (c .before .if1 .taken)
 
--- src/spans.rt:84:5
 sub-result : tie.Need-sub-result
 sub-result c = search needs
 
--- src/spans.rt:77:1
 returns-2 : tie.Need-returns-2
 returns-2 c = window-ahead (c .before .before .args .w) (c .before .before .args .stamp) ((c .before .before .args .now) .0) (c .before .if1 .left)
 

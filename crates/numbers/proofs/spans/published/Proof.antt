@@ -3,11 +3,9 @@ use borrow.Author.Needs.{needs}
 use Rattle.numbers.proofs.spans.published.Statement.{statement}
 use Rattle.numbers.proofs.spans.published.Tie as tie
 
--- src/spans.rt:51:12
 capped-mul-requires : tie.Need-capped-mul-requires
 capped-mul-requires c κs = search needs
 
--- src/spans.rt:48:1
 returns : tie.Need-returns
 unfolding published
 returns c = c .capped-mul .ensures

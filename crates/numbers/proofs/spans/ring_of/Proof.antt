@@ -3,27 +3,21 @@ use borrow.Author.Needs.{needs}
 use Rattle.numbers.proofs.spans.ring_of.Statement.{statement}
 use Rattle.numbers.proofs.spans.ring_of.Tie as tie
 
--- src/spans.rt:29:36
 retained-requires : tie.Need-retained-requires
 retained-requires c κs = search needs
 
--- src/spans.rt:29:49
 ahead-requires : tie.Need-ahead-requires
 ahead-requires c κs = search needs
 
--- src/spans.rt:29:9
 capped-add-requires : tie.Need-capped-add-requires
 capped-add-requires c κs = search needs
 
--- src/spans.rt:30:25
 ceil-div-requires : tie.Need-ceil-div-requires
 ceil-div-requires c κs = search needs
 
--- src/spans.rt:30:5
 capped-add-requires-2 : tie.Need-capped-add-requires-2
 capped-add-requires-2 c κs = search needs
 
--- src/spans.rt:26:1
 returns : tie.Need-returns
 unfolding ring-of
 returns c = rw (c .capped-add2 .ensures, c .before .ceil-div .ensures, c .before .before .capped-add .ensures, c .before .before .before .ahead .ensures, c .before .before .before .before .retained .ensures)

@@ -3,19 +3,15 @@ use borrow.Author.Needs.{needs}
 use Rattle.numbers.proofs.spans.second_of.Statement.{statement}
 use Rattle.numbers.proofs.spans.second_of.Tie as tie
 
--- src/spans.rt:59:9
 capped-mul-requires : tie.Need-capped-mul-requires
 capped-mul-requires c κs = search needs
 
--- src/spans.rt:58:34
 ceil-div-requires : tie.Need-ceil-div-requires
 ceil-div-requires c κs = search needs
 
--- src/spans.rt:58:12
 capped-to-32-requires : tie.Need-capped-to-32-requires
 capped-to-32-requires c κs = search needs
 
--- src/spans.rt:55:1
 returns : tie.Need-returns
 unfolding second-of
 returns c = rw (c .capped-to-32 .ensures, c .before .ceil-div .ensures, c .before .before .capped-mul .ensures)

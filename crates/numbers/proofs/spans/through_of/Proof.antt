@@ -3,11 +3,9 @@ use borrow.Author.Needs.{needs}
 use Rattle.numbers.proofs.spans.through_of.Statement.{statement}
 use Rattle.numbers.proofs.spans.through_of.Tie as tie
 
--- src/spans.rt:44:12
 ceil-div-requires : tie.Need-ceil-div-requires
 ceil-div-requires c κs = search needs
 
--- src/spans.rt:41:1
 returns : tie.Need-returns
 unfolding through-of
 returns c = c .ceil-div .ensures

@@ -3,38 +3,30 @@ use borrow.Author.Needs.{needs}
 use Rattle.numbers.proofs.spans.window_for.Statement.{statement}
 use Rattle.numbers.proofs.spans.window_for.Tie as tie
 
--- src/spans.rt:69:33
 enum-told : tie.Need-enum-told
 enum-told c = search needs
 
--- src/spans.rt:70:31
 enum-told-2 : tie.Need-enum-told-2
 enum-told-2 c = search needs
 
--- src/spans.rt:71:29
 enum-told-3 : tie.Need-enum-told-3
 enum-told-3 c = search needs
 
--- src/spans.rt:72:35
 enum-told-4 : tie.Need-enum-told-4
 enum-told-4 c = search needs
 
--- src/spans.rt:65:1
 returns : tie.Need-returns
 unfolding window-for
 returns c = rw (c .before .enum-told .given .1)
 
--- src/spans.rt:65:1
 returns-2 : tie.Need-returns-2
 unfolding window-for
 returns-2 c = rw (c .before .enum-told2 .given .1)
 
--- src/spans.rt:65:1
 returns-3 : tie.Need-returns-3
 unfolding window-for
 returns-3 c = rw (c .before .enum-told3 .given .1)
 
--- src/spans.rt:65:1
 returns-4 : tie.Need-returns-4
 unfolding window-for
 returns-4 c = rw (c .before .enum-told4 .given .1)

@@ -6,19 +6,15 @@ use native.Mathlib.Omega.{arith}
 use Rattle.numbers.proofs.starts.class_width.Statement.{statement}
 use Rattle.numbers.proofs.starts.class_width.Tie as tie
 
--- src/starts.rt:45:9
 place-width-requires : tie.Need-place-width-requires
 place-width-requires c κs = shares-few (c .args .b) (c .pre) .pairs
 
--- src/starts.rt:46:9
 mul-result : tie.Need-mul-result
 mul-result c = let k = places-few (c .before .args .b .places) _ (shares-few (c .before .args .b) (c .before .pre) .places) (c .place-width .ensures .1) in omega arith
 
--- src/starts.rt:46:5
 add-result : tie.Need-add-result
 add-result c = let k = places-few (c .before .args .b .places) _ (shares-few (c .before .args .b) (c .before .pre) .places) (c .place-width .ensures .1) in omega arith
 
--- src/starts.rt:41:1
 returns : tie.Need-returns
 returns c = let k = places-few (c .before .args .b .places) _ (shares-few (c .before .args .b) (c .before .pre) .places) (c .place-width .ensures .1) in (ap (λ (n : ℕ). 4 + (c .before .args .b .places) * n) (c .place-width .ensures .0), omega arith)
 

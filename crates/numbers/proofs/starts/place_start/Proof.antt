@@ -6,19 +6,15 @@ use borrow.Author.Needs.{needs}
 use Rattle.numbers.proofs.starts.place_start.Statement.{statement}
 use Rattle.numbers.proofs.starts.place_start.Tie as tie
 
--- src/starts.rt:45:9
 place-width-requires : tie.Need-place-width-requires
 place-width-requires c κs = search needs
 
--- src/starts.rt:46:9
 mul-result : tie.Need-mul-result
 mul-result c = let k = places-few (c .before .args .i) _ (c .before .pre .1) (c .place-width .ensures .1) in omega arith
 
--- src/starts.rt:46:5
 add-result : tie.Need-add-result
 add-result c = let k = places-few (c .before .args .i) _ (c .before .pre .1) (c .place-width .ensures .1) in omega arith
 
--- src/starts.rt:41:1
 returns : tie.Need-returns
 returns c = let k = places-few (c .before .args .i) _ (c .before .pre .1) (c .place-width .ensures .1) in (ap (λ (n : ℕ). 4 + (c .before .args .i) * n) (c .place-width .ensures .0), omega arith)
 

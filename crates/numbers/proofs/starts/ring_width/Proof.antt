@@ -5,19 +5,15 @@ use borrow.Author.Needs.{needs}
 use Rattle.numbers.proofs.starts.ring_width.Statement.{statement}
 use Rattle.numbers.proofs.starts.ring_width.Tie as tie
 
--- src/starts.rt:44:16
 ring-of-requires : tie.Need-ring-of-requires
 ring-of-requires c κs = search needs
 
--- src/starts.rt:45:13
 add-result : tie.Need-add-result
 add-result c = let f = usable-few (c .before .args .u) (c .before .pre) in let p = f .slots in omega arith
 
--- src/starts.rt:45:5
 mul-result : tie.Need-mul-result
 mul-result c = let e = c .ring-of .ensures in let k = ring-few (c .before .args .u) (c .before .pre) in rw e (omega arith)
 
--- src/starts.rt:40:1
 returns : tie.Need-returns
 returns c = let e = c .ring-of .ensures in (rw e, rw e (ring-few (c .before .args .u) (c .before .pre)))
 

@@ -4,39 +4,30 @@ use borrow.Author.Needs.{needs}
 use Rattle.register.proofs.forgetting.fail.Statement.{statement}
 use Rattle.register.proofs.forgetting.fail.Tie as tie
 
--- src/forgetting.rt:20:9
 ring-at-requires : tie.Need-ring-at-requires
 ring-at-requires c κs = search needs
 
--- src/forgetting.rt:23:23
 mul-drop-bucket : tie.Need-mul-drop-bucket
 mul-drop-bucket c = search needs
 
--- src/forgetting.rt:23:23
 sub-drop-bucket : tie.Need-sub-drop-bucket
 sub-drop-bucket c = search needs
 
--- src/forgetting.rt:23:23
 part-drop-bucket-start : tie.Need-part-drop-bucket-start
 part-drop-bucket-start c = search needs
 
--- src/forgetting.rt:23:23
 part-drop-bucket-end : tie.Need-part-drop-bucket-end
 part-drop-bucket-end c = search needs
 
--- src/forgetting.rt:23:5
 drop-bucket-requires : tie.Need-drop-bucket-requires
 drop-bucket-requires c κs = let s = c .before .before .before in ring-asks _ _ _ (c .before .ring-at .ensures) (s .args .part .now) (s .pre)
 
--- src/forgetting.rt:24:5
 raise-floor-requires : tie.Need-raise-floor-requires
 raise-floor-requires c κs = search needs
 
--- src/forgetting.rt:16:1
 same-length : tie.Need-same-length
 same-length c = search needs
 
--- src/forgetting.rt:16:1
 returns : tie.Need-returns
 returns c = let d = c .before .before .before .before .before .before in let s = d .before .before .before .before in let t = fail-turns (s .args .u) (s .args .class) (s .args .bucket .0) (s .args .newest) _ _ _ _ (ring-turns _ _ _ (d .before .before .ring-at .ensures) (d .drop-bucket .ensures .1)) (c .before .before .raise-floor .ensures (s .args .u)) in (fail-words (s .args .u) (s .args .class) (s .args .bucket .0) (s .args .newest) _ _ t (s .pre), t)
 

@@ -5,19 +5,15 @@ use borrow.Author.Needs.{needs}
 use Rattle.register.proofs.forgetting.forget_floor.Statement.{statement}
 use Rattle.register.proofs.forgetting.forget_floor.Tie as tie
 
--- src/forgetting.rt:32:5
 slice-write-part : tie.Need-slice-write-part
 slice-write-part c = search needs
 
--- src/forgetting.rt:33:5
 slice-write-part-2 : tie.Need-slice-write-part-2
 slice-write-part-2 c = let h = c .pre in let k = length-set (c .args .part .now) 8 0 in omega arith
 
--- src/forgetting.rt:28:1
 same-length : tie.Need-same-length
 same-length c = search needs
 
--- src/forgetting.rt:28:1
 returns : tie.Need-returns
 returns c = λ u. forget-turns _ u
 

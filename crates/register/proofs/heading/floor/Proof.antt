@@ -3,19 +3,15 @@ use borrow.Author.Needs.{needs}
 use Rattle.register.proofs.heading.floor.Statement.{statement}
 use Rattle.register.proofs.heading.floor.Tie as tie
 
--- src/heading.rt:28:8
 shared-slice-read-if1 : tie.Need-shared-slice-read-if1
 shared-slice-read-if1 c = search needs
 
--- src/heading.rt:29:32
 shared-slice-read-t6 : tie.Need-shared-slice-read-t6
 shared-slice-read-t6 c = search needs
 
--- src/heading.rt:29:9
 returns : tie.Need-returns
 returns c = λ u. floor-reads u (c .before .before .before .args .part .now) (c .before .if1 .taken)
 
--- src/heading.rt:24:1
 returns-2 : tie.Need-returns-2
 returns-2 c = λ u. no-floor-reads u (c .before .before .args .part .now) (c .if1 .left)
 

@@ -3,11 +3,9 @@ use borrow.Author.Needs.{needs}
 use Rattle.register.proofs.heading.published_sweep.Statement.{statement}
 use Rattle.register.proofs.heading.published_sweep.Tie as tie
 
--- src/heading.rt:48:12
 shared-slice-read-t3 : tie.Need-shared-slice-read-t3
 shared-slice-read-t3 c = search needs
 
--- src/heading.rt:44:1
 returns : tie.Need-returns
 returns c = λ u. published-reads u _
 

@@ -6,23 +6,18 @@ use Rattle.register.proofs.heading.raise_by.Tie as tie
 enum-told : tie.Need-enum-told
 enum-told c = search needs
 
--- src/heading.rt:61:25
 enum-known-went : tie.Need-enum-known-went
 enum-known-went c = search needs
 
--- src/heading.rt:61:35
 raise-floor-requires : tie.Need-raise-floor-requires
 raise-floor-requires c κs = search needs
 
--- src/heading.rt:55:1
 returns : tie.Need-returns
 returns c = λ u. by-nothing _ _ u (c .enum-told .given .1)
 
--- src/heading.rt:55:1
 same-length : tie.Need-same-length
 same-length c = search needs
 
--- src/heading.rt:55:1
 returns-2 : tie.Need-returns-2
 returns-2 c = by-newest _ _ _ _ (c .before .before .before .before .before .went .given .1) (c .before .before .raise-floor .ensures)
 

@@ -5,23 +5,18 @@ use borrow.Author.Needs.{needs}
 use Rattle.register.proofs.heading.set_swept.Statement.{statement}
 use Rattle.register.proofs.heading.set_swept.Tie as tie
 
--- src/heading.rt:70:9
 published-requires : tie.Need-published-requires
 published-requires c κs = search needs
 
--- src/heading.rt:71:5
 slice-write-part : tie.Need-slice-write-part
 slice-write-part c = search needs
 
--- src/heading.rt:72:5
 slice-write-part-2 : tie.Need-slice-write-part-2
 slice-write-part-2 c = let s = c .before .before in let h = s .pre in let k = length-set (s .args .part .now) 6 (s .args .swept .0) in omega arith
 
--- src/heading.rt:66:1
 same-length : tie.Need-same-length
 same-length c = search needs
 
--- src/heading.rt:66:1
 returns : tie.Need-returns
 returns c = set-swept-turns (c .before .before .args .u) _ _ (c .before .before .args .part .now) (c .published .ensures)
 

@@ -3,15 +3,12 @@ use borrow.Author.Needs.{needs}
 use Rattle.register.proofs.heading.swept.Statement.{statement}
 use Rattle.register.proofs.heading.swept.Tie as tie
 
--- src/heading.rt:39:21
 shared-slice-read-t3 : tie.Need-shared-slice-read-t3
 shared-slice-read-t3 c = search needs
 
--- src/heading.rt:39:30
 shared-slice-read-t5 : tie.Need-shared-slice-read-t5
 shared-slice-read-t5 c = search needs
 
--- src/heading.rt:35:1
 returns : tie.Need-returns
 returns c = λ u. swept-reads u _
 

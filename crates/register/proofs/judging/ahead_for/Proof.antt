@@ -4,55 +4,42 @@ use borrow.Author.Needs.{needs}
 use Rattle.register.proofs.judging.ahead_for.Statement.{statement}
 use Rattle.register.proofs.judging.ahead_for.Tie as tie
 
--- src/judging.rt:74:25
 enum-told : tie.Need-enum-told
 enum-told c = search needs
 
--- src/judging.rt:75:31
 enum-told-2 : tie.Need-enum-told-2
 enum-told-2 c = search needs
 
--- src/judging.rt:76:26
 enum-told-3 : tie.Need-enum-told-3
 enum-told-3 c = search needs
 
--- src/judging.rt:76:26
 late-or-ahead-requires : tie.Need-late-or-ahead-requires
 late-or-ahead-requires c κs = search needs
 
--- src/judging.rt:77:27
 enum-told-4 : tie.Need-enum-told-4
 enum-told-4 c = search needs
 
--- src/judging.rt:78:26
 enum-told-5 : tie.Need-enum-told-5
 enum-told-5 c = search needs
 
--- src/judging.rt:79:30
 enum-told-6 : tie.Need-enum-told-6
 enum-told-6 c = search needs
 
--- src/judging.rt:70:1
 returns : tie.Need-returns
 returns c = let e = c .enum-told .given .1 in ahead-keeps _ _ (λ z. no (cc))
 
--- src/judging.rt:70:1
 returns-2 : tie.Need-returns-2
 returns-2 c = let e = c .enum-told2 .given .1 in ahead-keeps _ _ (λ z. no (cc))
 
--- src/judging.rt:70:1
 returns-3 : tie.Need-returns-3
 returns-3 c = ahead-turns _ _ _ (c .before .enum-told3 .given .1) (c .late-or-ahead .ensures)
 
--- src/judging.rt:70:1
 returns-4 : tie.Need-returns-4
 returns-4 c = let e = c .enum-told4 .given .1 in ahead-keeps _ _ (λ z. no (cc))
 
--- src/judging.rt:70:1
 returns-5 : tie.Need-returns-5
 returns-5 c = let e = c .enum-told5 .given .1 in ahead-keeps _ _ (λ z. no (cc))
 
--- src/judging.rt:70:1
 returns-6 : tie.Need-returns-6
 returns-6 c = let e = c .enum-told6 .given .1 in ahead-keeps _ _ (λ z. no (cc))
 

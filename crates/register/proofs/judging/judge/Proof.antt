@@ -4,31 +4,24 @@ use borrow.Author.Needs.{needs}
 use Rattle.register.proofs.judging.judge.Statement.{statement}
 use Rattle.register.proofs.judging.judge.Tie as tie
 
--- src/judging.rt:62:9
 is-pending-requires : tie.Need-is-pending-requires
 is-pending-requires c κs = search needs
 
--- src/judging.rt:64:9
 same-length : tie.Need-same-length
 same-length c = search needs
 
--- src/judging.rt:64:9
 returns : tie.Need-returns
 returns c = let s = c .before .before .before .before .before in let t = unjudged-turns (s .args .u) (asked-by (s .args .ask)) _ _ (c .before .before .is-pending .ensures (s .args .u)) (c .if1 .taken) in (judged-words (s .args .u) (asked-by (s .args .ask)) _ _ _ t (s .pre), t)
 
--- src/judging.rt:66:5
 sweep-requires : tie.Need-sweep-requires
 sweep-requires c κs = search needs
 
--- src/judging.rt:67:5
 verdict-requires : tie.Need-verdict-requires
 verdict-requires c κs = search needs
 
--- src/judging.rt:58:1
 same-length-2 : tie.Need-same-length-2
 same-length-2 c = search needs
 
--- src/judging.rt:58:1
 returns-2 : tie.Need-returns-2
 returns-2 c = let w = c .before .before .before .before in let d = w .before .before .before .before in let s = d .before .before .before in let t = judged-turns (s .args .u) (asked-by (s .args .ask)) _ _ (d .is-pending .ensures (s .args .u)) _ _ (w .before .before .if1 .left) (w .sweep .ensures .1) (c .verdict .ensures) in (w .sweep .ensures .0, t)
 

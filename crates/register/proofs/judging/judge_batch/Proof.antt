@@ -4,27 +4,21 @@ use borrow.Author.Needs.{needs}
 use Rattle.register.proofs.judging.judge_batch.Statement.{statement}
 use Rattle.register.proofs.judging.judge_batch.Tie as tie
 
--- src/judging.rt:98:9
 judge-requires : tie.Need-judge-requires
 judge-requires c κs = search needs
 
--- src/judging.rt:100:34
 window-for-requires : tie.Need-window-for-requires
 window-for-requires c κs = search needs
 
--- src/judging.rt:100:9
 front-past-requires : tie.Need-front-past-requires
 front-past-requires c κs = search needs
 
--- src/judging.rt:101:5
 ahead-for-requires : tie.Need-ahead-for-requires
 ahead-for-requires c κs = search needs
 
--- src/judging.rt:94:1
 same-length : tie.Need-same-length
 same-length c = search needs
 
--- src/judging.rt:94:1
 returns : tie.Need-returns
 returns c = let j = c .before .before .before .before .before in let s = j .before .before .before in (j .judge .ensures .0, batch-turns (s .args .u) (asked-by (s .args .ask)) _ _ _ _ _ _ (j .judge .ensures .1) (c .before .before .window-for .ensures) (c .before .front-past .ensures) (c .ahead-for .ensures))
 

@@ -3,7 +3,6 @@ use borrow.Author.Needs.{needs}
 use Rattle.register.proofs.rings.contains_hash.Statement.{statement}
 use Rattle.register.proofs.rings.contains_hash.Tie as tie
 
--- src/rings.rt:57:9
 as-read-requires : tie.Need-as-read-requires
 as-read-requires c κs = search needs
 

@@ -3,31 +3,24 @@ use borrow.Author.Needs.{needs}
 use Rattle.register.proofs.rings.holds_hash.Statement.{statement}
 use Rattle.register.proofs.rings.holds_hash.Tie as tie
 
--- src/rings.rt:46:9
 place-in-requires : tie.Need-place-in-requires
 place-in-requires c κs = search needs
 
--- src/rings.rt:49:24
 mul-contains-any : tie.Need-mul-contains-any
 mul-contains-any c = search needs
 
--- src/rings.rt:49:24
 sub-contains-any : tie.Need-sub-contains-any
 sub-contains-any c = search needs
 
--- src/rings.rt:49:24
 part-contains-any-start : tie.Need-part-contains-any-start
 part-contains-any-start c = search needs
 
--- src/rings.rt:49:24
 part-contains-any-end : tie.Need-part-contains-any-end
 part-contains-any-end c = search needs
 
--- src/rings.rt:49:5
 contains-any-requires : tie.Need-contains-any-requires
 contains-any-requires c κs = let s = c .before .before .before in (s .pre .0 .0, ring-asks _ _ _ (c .before .place-in .ensures) (s .args .part .now) (s .pre .0 .1))
 
--- src/rings.rt:42:1
 returns : tie.Need-returns
 returns c = ring-reads _ _ _ (c .before .before .place-in .ensures) (c .contains-any .ensures)
 

@@ -3,31 +3,24 @@ use borrow.Author.Needs.{needs}
 use Rattle.register.proofs.rings.holds_in.Statement.{statement}
 use Rattle.register.proofs.rings.holds_in.Tie as tie
 
--- src/rings.rt:24:9
 place-in-requires : tie.Need-place-in-requires
 place-in-requires c κs = search needs
 
--- src/rings.rt:27:20
 mul-contains-at : tie.Need-mul-contains-at
 mul-contains-at c = search needs
 
--- src/rings.rt:27:20
 sub-contains-at : tie.Need-sub-contains-at
 sub-contains-at c = search needs
 
--- src/rings.rt:27:20
 part-contains-at-start : tie.Need-part-contains-at-start
 part-contains-at-start c = search needs
 
--- src/rings.rt:27:20
 part-contains-at-end : tie.Need-part-contains-at-end
 part-contains-at-end c = search needs
 
--- src/rings.rt:27:5
 contains-at-requires : tie.Need-contains-at-requires
 contains-at-requires c κs = let s = c .before .before .before in let l = c .before .place-in .ensures in ((s .pre .0 .0, ring-asks _ _ _ l (s .args .part .now) (s .pre .0 .1)), ring-position _ _ _ l (s .args .rings) _ _ (s .pre .1 .0) (s .pre .1 .1))
 
--- src/rings.rt:20:1
 returns : tie.Need-returns
 returns c = ring-reads _ _ _ (c .before .before .place-in .ensures) (c .contains-at .ensures)
 

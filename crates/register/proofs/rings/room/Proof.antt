@@ -4,31 +4,24 @@ use Rattle.register.proofs.rings.room.Statement.{statement}
 use Rattle.register.proofs.rings.room.Tie as tie
 use Rattle.ring.proofs.room.Reads as room-reads
 
--- src/rings.rt:69:9
 ring-at-requires : tie.Need-ring-at-requires
 ring-at-requires c κs = search needs
 
--- src/rings.rt:72:16
 mul-room : tie.Need-mul-room
 mul-room c = search needs
 
--- src/rings.rt:72:16
 sub-room : tie.Need-sub-room
 sub-room c = search needs
 
--- src/rings.rt:72:16
 part-room-start : tie.Need-part-room-start
 part-room-start c = search needs
 
--- src/rings.rt:72:16
 part-room-end : tie.Need-part-room-end
 part-room-end c = search needs
 
--- src/rings.rt:72:5
 room-requires : tie.Need-room-requires
 room-requires c κs = let s = c .before .before .before in (s .pre .0, ring-asks _ _ _ (c .before .ring-at .ensures) (s .args .part .now) (s .pre .1))
 
--- src/rings.rt:65:1
 returns : tie.Need-returns
 returns c = room-reads _ _ _ (c .before .before .ring-at .ensures) _ _ (c .room .ensures)
 

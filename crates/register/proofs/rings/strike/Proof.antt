@@ -4,35 +4,27 @@ use borrow.Author.Needs.{needs}
 use Rattle.register.proofs.rings.strike.Statement.{statement}
 use Rattle.register.proofs.rings.strike.Tie as tie
 
--- src/rings.rt:80:9
 ring-at-requires : tie.Need-ring-at-requires
 ring-at-requires c κs = search needs
 
--- src/rings.rt:83:18
 mul-insert : tie.Need-mul-insert
 mul-insert c = search needs
 
--- src/rings.rt:83:18
 sub-insert : tie.Need-sub-insert
 sub-insert c = search needs
 
--- src/rings.rt:83:18
 part-insert-start : tie.Need-part-insert-start
 part-insert-start c = search needs
 
--- src/rings.rt:83:18
 part-insert-end : tie.Need-part-insert-end
 part-insert-end c = search needs
 
--- src/rings.rt:83:5
 insert-requires : tie.Need-insert-requires
 insert-requires c κs = let s = c .before .before .before in let l = c .before .ring-at .ensures in ((s .pre .0 .0, ring-asks _ _ _ l (s .args .part .now) (s .pre .0 .1)), room-in-ring _ _ _ l _ _ (s .args .part .now) _ (s .pre .0 .1) (s .pre .1))
 
--- src/rings.rt:76:1
 same-length : tie.Need-same-length
 same-length c = search needs
 
--- src/rings.rt:76:1
 returns : tie.Need-returns
 unfolding strike
 returns c = ring-turns _ _ _ (c .before .before .before .before .ring-at .ensures) (c .before .before .insert .ensures .1)

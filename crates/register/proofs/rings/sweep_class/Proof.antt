@@ -4,39 +4,30 @@ use borrow.Author.Needs.{needs}
 use Rattle.register.proofs.rings.sweep_class.Statement.{statement}
 use Rattle.register.proofs.rings.sweep_class.Tie as tie
 
--- src/rings.rt:91:9
 place-in-requires : tie.Need-place-in-requires
 place-in-requires c κs = search needs
 
--- src/rings.rt:94:28
 mul-sweep : tie.Need-mul-sweep
 mul-sweep c = search needs
 
--- src/rings.rt:94:28
 sub-sweep : tie.Need-sub-sweep
 sub-sweep c = search needs
 
--- src/rings.rt:94:28
 part-sweep-start : tie.Need-part-sweep-start
 part-sweep-start c = search needs
 
--- src/rings.rt:94:28
 part-sweep-end : tie.Need-part-sweep-end
 part-sweep-end c = search needs
 
--- src/rings.rt:94:9
 sweep-requires : tie.Need-sweep-requires
 sweep-requires c κs = let s = c .before .before .before in ring-asks _ _ _ (c .before .place-in .ensures) (s .args .part .now) (s .pre .0)
 
--- src/rings.rt:95:5
 raise-by-requires : tie.Need-raise-by-requires
 raise-by-requires c κs = search needs
 
--- src/rings.rt:87:1
 same-length : tie.Need-same-length
 same-length c = search needs
 
--- src/rings.rt:87:1
 returns : tie.Need-returns
 returns c = let d = c .before .before .before .before .before .before in let s = d .before .before .before .before in let t = class-turns (s .args .u) (s .args .class) (s .args .from .0) (s .args .through .0) _ _ _ _ (ring-turns _ _ _ (d .before .before .place-in .ensures) (d .sweep .ensures .1)) (c .before .before .raise-by .ensures (s .args .u)) in (class-words (s .args .u) (s .args .class) (s .args .from .0) (s .args .through .0) _ _ t (s .pre .0), t)
 

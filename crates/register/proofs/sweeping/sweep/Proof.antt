@@ -3,23 +3,18 @@ use borrow.Author.Needs.{needs}
 use Rattle.register.proofs.sweeping.sweep.Statement.{statement}
 use Rattle.register.proofs.sweeping.sweep.Tie as tie
 
--- src/sweeping.rt:43:8
 is-pending-requires : tie.Need-is-pending-requires
 is-pending-requires c κs = search needs
 
--- src/sweeping.rt:44:9
 same-length : tie.Need-same-length
 same-length c = search needs
 
--- src/sweeping.rt:44:9
 returns : tie.Need-returns
 returns c = let s = c .before .before .before .before in let t = sweep-idle (s .args .u) (s .args .reading .0) _ _ (c .before .is-pending .ensures (s .args .u)) (c .if1 .taken) in (swept-words (s .args .u) (s .args .reading .0) _ _ t (s .pre), t)
 
--- src/sweeping.rt:46:9
 through-of-requires : tie.Need-through-of-requires
 through-of-requires c κs = search needs
 
--- src/sweeping.rt:47:24
 slice-read-sweep-from : tie.Need-slice-read-sweep-from
 slice-read-sweep-from c = search needs
 
@@ -38,23 +33,18 @@ same-length-3 c = search needs
 returns-3 : tie.Need-returns-3
 returns-3 c = let d = c .before .before .before .before .before .before .before .before .before .before .before in let s = d .before .before .before .before .before in let t = sweep-back (s .args .u) (s .args .reading .0) (s .args .part .now) _ _ _ (d .before .before .is-pending .ensures (s .args .u)) (d .before .if1 .left) (d .through-of .ensures) (c .before .before .before .before .if3 .taken) (c .before .before .set-swept .ensures) in (swept-words (s .args .u) (s .args .reading .0) _ _ t (s .pre), t)
 
--- src/sweeping.rt:52:43
 rings-of-requires : tie.Need-rings-of-requires
 rings-of-requires c κs = search needs
 
--- src/sweeping.rt:52:9
 sweep-from-requires : tie.Need-sweep-from-requires
 sweep-from-requires c κs = search needs
 
--- src/sweeping.rt:53:5
 sweep-rings-requires : tie.Need-sweep-rings-requires
 sweep-rings-requires c κs = search needs
 
--- src/sweeping.rt:39:1
 same-length-4 : tie.Need-same-length-4
 same-length-4 c = search needs
 
--- src/sweeping.rt:39:1
 returns-4 : tie.Need-returns-4
 returns-4 c = let d = c .before .before .before .before .before .before .before .before .before .before .before .before .before in let s = d .before .before .before .before .before in let k = c .before .before .before .before in let t = sweep-on (s .args .u) (s .args .reading .0) (s .args .part .now) _ _ _ _ (d .before .before .is-pending .ensures (s .args .u)) (d .before .if1 .left) (d .through-of .ensures) (k .before .before .if3 .left) (rw (← k .before .rings-of .ensures .ring) (k .sweep-from .ensures)) (c .before .before .sweep-rings .ensures) in (swept-words (s .args .u) (s .args .reading .0) _ _ t (s .pre), t)
 

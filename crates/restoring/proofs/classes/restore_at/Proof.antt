@@ -4,23 +4,18 @@ use borrow.Author.Needs.{needs}
 use Rattle.restoring.proofs.classes.restore_at.Statement.{statement}
 use Rattle.restoring.proofs.classes.restore_at.Tie as tie
 
--- src/classes.rt:27:9
 generation-at-requires : tie.Need-generation-at-requires
 generation-at-requires c κs = search needs
 
--- src/classes.rt:30:9
 second-of-requires : tie.Need-second-of-requires
 second-of-requires c κs = search needs
 
--- src/classes.rt:37:9
 restore-generation-requires : tie.Need-restore-generation-requires
 restore-generation-requires c κs = let s = c .before .before .before .before .before .before .before in let g = c .before .before .before .before .generation-at .ensures in ((s .pre .0, record { second = rw (← s .pre .0 .1 .usable) (c .before .second-of .ensures) }), (g .length, s .pre .1))
 
--- src/classes.rt:23:1
 same-length : tie.Need-same-length
 same-length c = search needs
 
--- src/classes.rt:23:1
 returns : tie.Need-returns
 returns c = let s = c .before .before .before .before .before .before .before .before .before .before in let g = c .before .before .before .before .before .before .before .generation-at .ensures in let a = c .before .before .restore-generation .ensures in (a .0, (g .next, found-acts (s .args .s) (s .args .r) (words-of (s .args .bytes .now)) (s .args .at) (record { class = s .args .class; bucket = c .before .before .before .before .before .before .before .generation-at .result .bucket; newest = c .before .before .before .before .before .before .before .generation-at .result .newest; second = c .before .before .before .before .second-of .result }) (g .bucket) (g .newest) (s .args .run .now) _ _ (a .1)))
 

@@ -9,39 +9,30 @@ Inv-loop run₀ s r place class bytes from before left₀ at₀ whole₀ run lef
 abbrev μ-loop : tie.MeasureT-loop
 μ-loop run₀ s r place class bytes from before left₀ at₀ whole₀ run left at whole = left
 
--- src/classes.rt:49:9
 count-at-requires : tie.Need-count-at-requires Inv-loop μ-loop
 count-at-requires c κs = search needs
 
--- src/classes.rt:50:18
 add-at : tie.Need-add-at Inv-loop μ-loop
 add-at c = search needs
 
--- src/classes.rt:52:5
 loop-holds : tie.Need-loop-holds Inv-loop μ-loop
 loop-holds c = let s = c .before .before .before in walking-start (s .args .s) (s .args .r) (s .args .class) (s .args .bytes .now) (s .args .from) (s .args .before) (s .args .run .now) _ (s .pre .0 .0) (s .pre .1) (c .count-at .ensures)
 
--- src/classes.rt:53:13
 restore-at-requires : tie.Need-restore-at-requires Inv-loop μ-loop
 restore-at-requires c κs = let s = c .before .before .before .before .before .before in let i = c .before .before .loop in ((i .inv .words, s .pre .0 .1), walking-inside (s .args .s) (s .args .r) (s .args .class) (s .args .bytes .now) (s .args .from) (s .args .before) (s .args .run .now) _ _ (i .left) _ (i .inv) (c .before .loop-test .taken))
 
--- src/classes.rt:56:9
 sub-left : tie.Need-sub-left Inv-loop μ-loop
 sub-left c = search needs
 
--- src/classes.rt:52:5
 loop-less : tie.Need-loop-less Inv-loop μ-loop
 loop-less c = search needs
 
--- src/classes.rt:52:5
 loop-again : tie.Need-loop-again Inv-loop μ-loop
 loop-again c = let s = c .before .before .before .before .before .before .before .before .before .before in let i = c .before .before .before .before .before .before .loop in let a = c .before .before .before .restore-at .ensures in walking-next (s .args .s) (s .args .r) (s .args .class) (s .args .bytes .now) (s .args .from) (s .args .before) (s .args .run .now) _ _ (i .at) (i .left) _ _ _ (i .inv) (c .before .before .before .before .before .loop-test .taken) (a .1 .0) (a .0) (a .1 .1)
 
--- src/classes.rt:45:1
 same-length : tie.Need-same-length Inv-loop μ-loop
 same-length c = search needs
 
--- src/classes.rt:45:1
 returns : tie.Need-returns Inv-loop μ-loop
 returns c = let s = c .before .before .before .before .before in let i = c .before .loop in (i .inv .words, walking-end (s .args .s) (s .args .r) (s .args .class) (s .args .bytes .now) (s .args .from) (s .args .before) (s .args .run .now) _ (i .at) (i .left) _ (i .inv) (c .loop-test .left))
 

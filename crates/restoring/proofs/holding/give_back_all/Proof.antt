@@ -9,31 +9,24 @@ Inv-loop run₀ s r h draws left₀ run left = Returns s r h run₀ draws run le
 abbrev μ-loop : tie.MeasureT-loop
 μ-loop run₀ s r h draws left₀ run left = left
 
--- src/holding.rt:62:5
 loop-holds : tie.Need-loop-holds Inv-loop μ-loop
 loop-holds c = let s = c .before in returns-start (s .args .s) (s .args .r) (s .args .h) (s .args .run .now) (s .args .draws) (s .pre .0)
 
--- src/holding.rt:63:9
 give-back-requires : tie.Need-give-back-requires Inv-loop μ-loop
 give-back-requires c κs = let s = c .before .before .before .before in (c .before .before .loop .inv .words, s .pre .1)
 
--- src/holding.rt:64:9
 sub-left : tie.Need-sub-left Inv-loop μ-loop
 sub-left c = search needs
 
--- src/holding.rt:62:5
 loop-less : tie.Need-loop-less Inv-loop μ-loop
 loop-less c = search needs
 
--- src/holding.rt:62:5
 loop-again : tie.Need-loop-again Inv-loop μ-loop
 loop-again c = let s = c .before .before .before .before .before .before .before in let i = c .before .before .before .before .before .loop in returns-next (s .args .s) (s .args .r) (s .args .h) (s .args .run .now) (s .args .draws) _ _ (i .left) (i .inv) (c .before .before .before .before .loop-test .taken) (c .before .before .give-back .ensures .0) (c .before .before .give-back .ensures .1)
 
--- src/holding.rt:57:1
 same-length : tie.Need-same-length Inv-loop μ-loop
 same-length c = search needs
 
--- src/holding.rt:57:1
 returns : tie.Need-returns Inv-loop μ-loop
 returns c = let s = c .before .before .before in let i = c .before .loop in (i .inv .words, returns-end (s .args .s) (s .args .r) (s .args .h) (s .args .run .now) (s .args .draws) _ (i .left) (i .inv) (c .loop-test .left))
 

@@ -15,43 +15,33 @@ Inv-loop run₀ s r place h bytes at long draws₀ k₀ run draws k = Holds s r 
 abbrev μ-loop : tie.MeasureT-loop
 μ-loop run₀ s r place h bytes at long draws₀ k₀ run draws k = long - k
 
--- src/holding.rt:41:5
 loop-holds : tie.Need-loop-holds Inv-loop μ-loop
 loop-holds c = let s = c .before .before in holds-start (s .args .s) (s .args .r) (s .args .h) (s .args .bytes .now) (s .args .at) (s .args .run .now) (s .pre .0 .0 .0)
 
--- src/holding.rt:42:13
 print-at-requires : tie.Need-print-at-requires Inv-loop μ-loop
 print-at-requires c κs = search needs
 
--- src/holding.rt:43:13
 hold-one-requires : tie.Need-hold-one-requires Inv-loop μ-loop
 hold-one-requires c κs = let s = c .before .before .before .before .before .before in let i = c .before .before .before .loop .inv in let t = c .before .before .loop-test .taken in let b = s .fits .long in (((i .words, s .pre .0 .0 .1), s .pre .0 .1), omega (arith, i .few))
 
--- src/holding.rt:45:13
 same-length : tie.Need-same-length Inv-loop μ-loop
 same-length c = search needs
 
--- src/holding.rt:45:13
 returns : tie.Need-returns Inv-loop μ-loop
 returns c = let s = c .before .before .before .before .before .before .before .before .before .before .before in let i = c .before .before .before .before .before .before .before .before .loop in let t = c .before .before .before .before .before .before .before .loop-test .taken in let e = s .pre .1 .0 in let less : i .k < length-at (words-of (s .args .bytes .now)) (s .args .at) = omega arith in let one = c .before .before .before .before .hold-one in (one .ensures .0, holds-stop (s .args .s) (s .args .r) (s .args .h) (s .args .bytes .now) (s .args .at) (s .args .run .now) (s .pre .1 .1) _ _ (i .draws) (i .k) _ _ (i .inv) less (c .before .before .before .before .before .before .print-at .ensures) (one .ensures .1 .0) (not-true _ (c .if1 .taken)))
 
--- src/holding.rt:48:9
 add-k : tie.Need-add-k Inv-loop μ-loop
 add-k c = search needs
 
--- src/holding.rt:41:5
 loop-less : tie.Need-loop-less Inv-loop μ-loop
 loop-less c = search needs
 
--- src/holding.rt:41:5
 loop-again : tie.Need-loop-again Inv-loop μ-loop
 loop-again c = let s = c .before .before .before .before .before .before .before .before .before .before .before in let i = c .before .before .before .before .before .before .before .before .loop in let t = c .before .before .before .before .before .before .before .loop-test .taken in let e = s .pre .1 .0 in let less : i .k < length-at (words-of (s .args .bytes .now)) (s .args .at) = omega arith in let one = c .before .before .before .before .hold-one in holds-next (s .args .s) (s .args .r) (s .args .h) (s .args .bytes .now) (s .args .at) (s .args .run .now) (s .pre .1 .1) _ _ (i .draws) (i .k) _ _ (i .inv) less (c .before .before .before .before .before .before .print-at .ensures) (one .ensures .0) (one .ensures .1 .0) (one .ensures .1 .1) (not-false _ (c .if1 .left))
 
--- src/holding.rt:35:1
 same-length-2 : tie.Need-same-length-2 Inv-loop μ-loop
 same-length-2 c = search needs
 
--- src/holding.rt:35:1
 returns-2 : tie.Need-returns-2 Inv-loop μ-loop
 returns-2 c = let s = c .before .before .before .before in let i = c .before .loop in let t = c .loop-test .left in let e = s .pre .1 .0 in let more : length-at (words-of (s .args .bytes .now)) (s .args .at) ≤ i .k = omega arith in (i .inv .words, holds-end (s .args .s) (s .args .r) (s .args .h) (s .args .bytes .now) (s .args .at) (s .args .run .now) (s .pre .1 .1) _ (i .draws) (i .k) (i .inv) more)
 

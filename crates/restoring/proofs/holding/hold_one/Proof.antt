@@ -5,31 +5,24 @@ use borrow.Author.Needs.{needs}
 use Rattle.restoring.proofs.holding.hold_one.Statement.{statement}
 use Rattle.restoring.proofs.holding.hold_one.Tie as tie
 
--- src/holding.rt:21:9
 draw-requires : tie.Need-draw-requires
 draw-requires c κs = search needs
 
--- src/holding.rt:22:9
 same-length : tie.Need-same-length
 same-length c = search needs
 
--- src/holding.rt:22:9
 returns : tie.Need-returns
 returns c = let s = c .before .before .before .before .before .before in let d = c .before .before .before .draw .ensures in (d .0, (one-refused (s .args .s) (s .args .r) (s .args .h) (s .pre .0 .1) (s .args .fp) (s .args .draws) (s .args .run .now) _ _ (not-true _ (c .if1 .taken)) (d .1), omega arith))
 
--- src/holding.rt:27:9
 hold-requires : tie.Need-hold-requires
 hold-requires c κs = search needs
 
--- src/holding.rt:29:16
 add-t15 : tie.Need-add-t15
 add-t15 c = search needs
 
--- src/holding.rt:17:1
 same-length-2 : tie.Need-same-length-2
 same-length-2 c = search needs
 
--- src/holding.rt:17:1
 returns-2 : tie.Need-returns-2
 returns-2 c = let s = c .before .before .before .before .before .before .before .before .before .before in let d = c .before .before .before .before .before .before .before .draw .ensures in let e = c .before .before .hold .ensures in (e .0, (one-drawn (s .args .s) (s .args .r) (s .args .h) (s .pre .0 .1) (s .args .fp) (s .args .draws) (s .args .run .now) _ _ _ _ (not-false _ (c .before .before .before .before .if1 .left)) (d .1) (e .1), omega arith))
 

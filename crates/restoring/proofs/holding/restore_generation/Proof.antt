@@ -5,31 +5,24 @@ use borrow.Author.Needs.{needs}
 use Rattle.restoring.proofs.holding.restore_generation.Statement.{statement}
 use Rattle.restoring.proofs.holding.restore_generation.Tie as tie
 
--- src/holding.rt:73:9
 hold-all-requires : tie.Need-hold-all-requires
 hold-all-requires c κs = search needs
 
--- src/holding.rt:75:9
 same-length : tie.Need-same-length
 same-length c = search needs
 
--- src/holding.rt:75:9
 returns : tie.Need-returns
 returns c = let s = c .before .before .before .before .before .before .before in let a = c .before .before .before .hold-all .ensures in (a .0, generation-kept (s .args .s) (s .args .r) (s .args .h) (dumped-at (words-of (s .args .bytes .now)) (s .args .at) .prints) (s .args .run .now) _ _ (a .1) (c .if1 .taken))
 
--- src/holding.rt:77:5
 give-back-all-requires : tie.Need-give-back-all-requires
 give-back-all-requires c κs = search needs
 
--- src/holding.rt:78:5
 fail-requires : tie.Need-fail-requires
 fail-requires c κs = search needs
 
--- src/holding.rt:69:1
 same-length-2 : tie.Need-same-length-2
 same-length-2 c = search needs
 
--- src/holding.rt:69:1
 returns-2 : tie.Need-returns-2
 returns-2 c = let s = c .before .before .before .before .before .before .before .before .before .before .before .before .before .before .before in let a = c .before .before .before .before .before .before .before .before .before .before .before .hold-all .ensures in let e = c .before .before .fail .ensures in (e .0, generation-failed (s .args .s) (s .args .r) (s .args .h) (dumped-at (words-of (s .args .bytes .now)) (s .args .at) .prints) (s .args .run .now) _ _ _ _ (s .pre .0 .1) (a .1) (c .before .before .before .before .before .before .before .before .if1 .left) (c .before .before .before .before .before .before .give-back-all .ensures .1) (e .1))
 

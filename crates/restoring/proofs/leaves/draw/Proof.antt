@@ -7,79 +7,60 @@ use borrow.Author.Needs.{needs}
 use Rattle.restoring.proofs.leaves.draw.Statement.{statement}
 use Rattle.restoring.proofs.leaves.draw.Tie as tie
 
--- src/leaves.rt:128:37
 sub-kept-limits : tie.Need-sub-kept-limits
 sub-kept-limits c = search needs
 
--- src/leaves.rt:128:37
 part-kept-limits-start : tie.Need-part-kept-limits-start
 part-kept-limits-start c = search needs
 
--- src/leaves.rt:128:37
 part-kept-limits-end : tie.Need-part-kept-limits-end
 part-kept-limits-end c = search needs
 
--- src/leaves.rt:128:9
 kept-limits-requires : tie.Need-kept-limits-requires
 kept-limits-requires c κs = search needs
 
--- src/leaves.rt:129:35
 sub-is-closed : tie.Need-sub-is-closed
 sub-is-closed c = search needs
 
--- src/leaves.rt:129:35
 part-is-closed-start : tie.Need-part-is-closed-start
 part-is-closed-start c = search needs
 
--- src/leaves.rt:129:35
 part-is-closed-end : tie.Need-part-is-closed-end
 part-is-closed-end c = search needs
 
--- src/leaves.rt:129:9
 is-closed-requires : tie.Need-is-closed-requires
 is-closed-requires c κs = search needs
 
--- src/leaves.rt:132:9
 class-start-requires : tie.Need-class-start-requires
 class-start-requires c κs = search needs
 
--- src/leaves.rt:133:17
 class-width-requires : tie.Need-class-width-requires
 class-width-requires c κs = let s = c .before .before .before .before .before .before .before .before .before in fit-shares (s .args .s) (s .pre .0 .0 .fit)
 
--- src/leaves.rt:133:13
 add-e : tie.Need-add-e
 add-e c = search needs
 
--- src/leaves.rt:135:29
 mul-take : tie.Need-mul-take
 mul-take c = search needs
 
--- src/leaves.rt:135:29
 sub-take : tie.Need-sub-take
 sub-take c = search needs
 
--- src/leaves.rt:135:29
 part-take-start : tie.Need-part-take-start
 part-take-start c = search needs
 
--- src/leaves.rt:135:29
 part-take-end : tie.Need-part-take-end
 part-take-end c = search needs
 
--- src/leaves.rt:135:9
 take-requires : tie.Need-take-requires
 take-requires c κs = let s = c .before .before .before .before .before .before .before .before .before .before .before in (share-asks (s .args .s) (s .args .r) (s .pre .0 .1) (s .args .h) (s .args .run .now) (s .pre .0 .0) _ _ (c .before .before .class-start .ensures .0) (ap (λ (n : ℕ). c .before .before .class-start .result + n) (c .before .class-width .ensures .0)), limits-are-fit (s .args .s) (s .args .run .now) (s .pre .0 .0) _ _ (c .before .before .before .before .before .before .before .kept-limits .ensures (s .args .s)) (c .before .before .before .before .is-closed .ensures (s .args .s)))
 
--- src/leaves.rt:136:5
 is-granted-requires : tie.Need-is-granted-requires
 is-granted-requires c κs = search needs
 
--- src/leaves.rt:124:1
 same-length : tie.Need-same-length
 same-length c = search needs
 
--- src/leaves.rt:124:1
 returns : tie.Need-returns
 returns c = let s = c .before .before .before .before .before .before .before .before .before .before .before .before .before .before .before in draw-acts (s .args .s) (s .args .r) (s .pre .0 .1) (s .args .h) (s .args .run .now) (s .pre .0 .0) _ _ (c .before .before .before .before .before .before .class-start .ensures .0) (ap (λ (n : ℕ). c .before .before .before .before .before .before .class-start .result + n) (c .before .before .before .before .before .class-width .ensures .0)) _ _ (c .before .before .before .before .before .before .before .before .before .before .before .kept-limits .ensures (s .args .s)) (c .before .before .before .before .before .before .before .before .is-closed .ensures (s .args .s)) (s .pre .1) _ _ _ (c .before .before .before .take .ensures) (c .is-granted .ensures)
 

@@ -4,31 +4,24 @@ use borrow.Author.Needs.{needs}
 use Rattle.restoring.proofs.leaves.fail.Statement.{statement}
 use Rattle.restoring.proofs.leaves.fail.Tie as tie
 
--- src/leaves.rt:87:20
 mul-fail : tie.Need-mul-fail
 mul-fail c = search needs
 
--- src/leaves.rt:87:20
 sub-fail : tie.Need-sub-fail
 sub-fail c = search needs
 
--- src/leaves.rt:87:20
 part-fail-start : tie.Need-part-fail-start
 part-fail-start c = search needs
 
--- src/leaves.rt:87:20
 part-fail-end : tie.Need-part-fail-end
 part-fail-end c = search needs
 
--- src/leaves.rt:87:5
 fail-requires : tie.Need-fail-requires
 fail-requires c κs = let s = c .before .before .before in register-asks (s .args .s) (s .args .r) (s .pre .1 .below) _ (s .pre .1) (s .args .run .now) (s .pre .0)
 
--- src/leaves.rt:78:1
 same-length : tie.Need-same-length
 same-length c = search needs
 
--- src/leaves.rt:78:1
 returns : tie.Need-returns
 returns c = let s = c .before .before .before .before .before .before in fail-acts (s .args .s) (s .args .r) (s .pre .1 .below) _ (s .pre .1) (s .args .run .now) _ (s .pre .0) (s .args .h) (c .before .before .fail .ensures .1)
 

@@ -3,31 +3,24 @@ use borrow.Author.Needs.{needs}
 use Rattle.restoring.proofs.leaves.forget_floor.Statement.{statement}
 use Rattle.restoring.proofs.leaves.forget_floor.Tie as tie
 
--- src/leaves.rt:109:28
 mul-forget-floor : tie.Need-mul-forget-floor
 mul-forget-floor c = search needs
 
--- src/leaves.rt:109:28
 sub-forget-floor : tie.Need-sub-forget-floor
 sub-forget-floor c = search needs
 
--- src/leaves.rt:109:28
 part-forget-floor-start : tie.Need-part-forget-floor-start
 part-forget-floor-start c = search needs
 
--- src/leaves.rt:109:28
 part-forget-floor-end : tie.Need-part-forget-floor-end
 part-forget-floor-end c = search needs
 
--- src/leaves.rt:109:5
 forget-floor-requires : tie.Need-forget-floor-requires
 forget-floor-requires c κs = search needs
 
--- src/leaves.rt:102:1
 same-length : tie.Need-same-length
 same-length c = search needs
 
--- src/leaves.rt:102:1
 returns : tie.Need-returns
 returns c = let s = c .before .before .before .before .before in forget-acts (s .args .s) (s .args .r) (s .pre .1 .below) _ (s .pre .1) (s .args .run .now) _ (s .pre .0) (c .before .before .forget-floor .ensures)
 

@@ -6,43 +6,33 @@ use borrow.Author.Needs.{needs}
 use Rattle.restoring.proofs.leaves.give_back.Statement.{statement}
 use Rattle.restoring.proofs.leaves.give_back.Tie as tie
 
--- src/leaves.rt:146:9
 class-start-requires : tie.Need-class-start-requires
 class-start-requires c κs = search needs
 
--- src/leaves.rt:147:17
 class-width-requires : tie.Need-class-width-requires
 class-width-requires c κs = let s = c .before .before .before in fit-shares (s .args .s) (s .pre .0 .fit)
 
--- src/leaves.rt:147:13
 add-e : tie.Need-add-e
 add-e c = search needs
 
--- src/leaves.rt:148:18
 mul-untake : tie.Need-mul-untake
 mul-untake c = search needs
 
--- src/leaves.rt:148:18
 sub-untake : tie.Need-sub-untake
 sub-untake c = search needs
 
--- src/leaves.rt:148:18
 part-untake-start : tie.Need-part-untake-start
 part-untake-start c = search needs
 
--- src/leaves.rt:148:18
 part-untake-end : tie.Need-part-untake-end
 part-untake-end c = search needs
 
--- src/leaves.rt:148:5
 untake-requires : tie.Need-untake-requires
 untake-requires c κs = let s = c .before .before .before .before .before in share-asks (s .args .s) (s .args .r) (s .pre .1) (s .args .h) (s .args .run .now) (s .pre .0) _ _ (c .before .before .class-start .ensures .0) (ap (λ (n : ℕ). c .before .before .class-start .result + n) (c .before .class-width .ensures .0))
 
--- src/leaves.rt:140:1
 same-length : tie.Need-same-length
 same-length c = search needs
 
--- src/leaves.rt:140:1
 returns : tie.Need-returns
 returns c = let s = c .before .before .before .before .before .before .before .before in return-acts (s .args .s) (s .args .r) (s .pre .1) (s .args .h) (s .args .run .now) (s .pre .0) _ _ (c .before .before .before .before .before .class-start .ensures .0) (ap (λ (n : ℕ). c .before .before .before .before .before .class-start .result + n) (c .before .before .before .before .class-width .ensures .0)) _ (c .before .before .untake .ensures)
 

@@ -4,31 +4,24 @@ use borrow.Author.Needs.{needs}
 use Rattle.restoring.proofs.leaves.hold.Statement.{statement}
 use Rattle.restoring.proofs.leaves.hold.Tie as tie
 
--- src/leaves.rt:74:13
 mul-hold-in : tie.Need-mul-hold-in
 mul-hold-in c = search needs
 
--- src/leaves.rt:74:13
 sub-hold-in : tie.Need-sub-hold-in
 sub-hold-in c = search needs
 
--- src/leaves.rt:74:13
 part-hold-in-start : tie.Need-part-hold-in-start
 part-hold-in-start c = search needs
 
--- src/leaves.rt:74:13
 part-hold-in-end : tie.Need-part-hold-in-end
 part-hold-in-end c = search needs
 
--- src/leaves.rt:74:5
 hold-in-requires : tie.Need-hold-in-requires
 hold-in-requires c κs = let s = c .before .before in register-asks (s .args .s) (s .args .r) (s .pre .1 .below) _ (s .pre .1) (s .args .run .now) (s .pre .0)
 
--- src/leaves.rt:67:1
 same-length : tie.Need-same-length
 same-length c = search needs
 
--- src/leaves.rt:67:1
 returns : tie.Need-returns
 returns c = let s = c .before .before .before .before .before in hold-acts (s .args .s) (s .args .r) (s .pre .1 .below) _ (s .pre .1) (s .args .run .now) _ (s .pre .0) (s .args .h) (s .args .fp) _ (c .before .before .hold-in .ensures)
 

@@ -6,35 +6,27 @@ use borrow.Author.Needs.{needs}
 use Rattle.restoring.proofs.leaves.hold_in.Statement.{statement}
 use Rattle.restoring.proofs.leaves.hold_in.Tie as tie
 
--- src/leaves.rt:58:9
 as-read-requires : tie.Need-as-read-requires
 as-read-requires c κs = search needs
 
--- src/leaves.rt:59:30
 room-requires : tie.Need-room-requires
 room-requires c κs = let s = c .before .before .before .before in (let k = c .before .as-read .ensures in omega (arith, k, read-positive (s .args .fp)), s .pre)
 
--- src/leaves.rt:59:18
 enum-known-position : tie.Need-enum-known-position
 enum-known-position c = search needs
 
--- src/leaves.rt:60:9
 same-length : tie.Need-same-length
 same-length c = search needs
 
--- src/leaves.rt:60:9
 returns : tie.Need-returns
 returns c = let s = c .before .before .before .before .before .before in hold-stays (s .args .u) (s .args .h) (s .args .fp) (s .args .part .now) _ _ (c .before .before .before .as-read .ensures) (c .before .room .ensures) (c .match .keys2)
 
--- src/leaves.rt:62:5
 strike-requires : tie.Need-strike-requires
 strike-requires c κs = let s = c .before .before .before .before .before .before .before .before .before in ((let k = c .before .before .before .before .before .before .as-read .ensures in omega (arith, k, read-positive (s .args .fp)), s .pre), rw (c .before .before .position .given .1) at (c .before .before .before .before .room .ensures))
 
--- src/leaves.rt:52:1
 same-length-2 : tie.Need-same-length-2
 same-length-2 c = search needs
 
--- src/leaves.rt:52:1
 returns-2 : tie.Need-returns-2
 returns-2 c = let s = c .before .before .before .before .before .before .before .before .before .before .before .before in hold-strikes (s .args .u) (s .args .h) (s .args .fp) (s .args .part .now) _ _ _ _ (c .before .before .before .before .before .before .before .before .before .as-read .ensures) (c .before .before .before .before .before .position .given .1) (c .before .before .before .before .before .before .before .room .ensures) (c .before .before .strike .ensures)
 

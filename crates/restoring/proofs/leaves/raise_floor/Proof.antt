@@ -3,31 +3,24 @@ use borrow.Author.Needs.{needs}
 use Rattle.restoring.proofs.leaves.raise_floor.Statement.{statement}
 use Rattle.restoring.proofs.leaves.raise_floor.Tie as tie
 
--- src/leaves.rt:120:27
 mul-raise-floor : tie.Need-mul-raise-floor
 mul-raise-floor c = search needs
 
--- src/leaves.rt:120:27
 sub-raise-floor : tie.Need-sub-raise-floor
 sub-raise-floor c = search needs
 
--- src/leaves.rt:120:27
 part-raise-floor-start : tie.Need-part-raise-floor-start
 part-raise-floor-start c = search needs
 
--- src/leaves.rt:120:27
 part-raise-floor-end : tie.Need-part-raise-floor-end
 part-raise-floor-end c = search needs
 
--- src/leaves.rt:120:5
 raise-floor-requires : tie.Need-raise-floor-requires
 raise-floor-requires c κs = search needs
 
--- src/leaves.rt:113:1
 same-length : tie.Need-same-length
 same-length c = search needs
 
--- src/leaves.rt:113:1
 returns : tie.Need-returns
 returns c = let s = c .before .before .before .before .before in raise-acts (s .args .s) (s .args .r) (s .pre .1 .below) _ (s .pre .1) (s .args .run .now) _ (s .pre .0) (s .args .stamp) (c .before .before .raise-floor .ensures)
 

@@ -3,31 +3,24 @@ use borrow.Author.Needs.{needs}
 use Rattle.restoring.proofs.leaves.raise_to_dumped.Statement.{statement}
 use Rattle.restoring.proofs.leaves.raise_to_dumped.Tie as tie
 
--- src/leaves.rt:98:31
 mul-raise-to-dumped : tie.Need-mul-raise-to-dumped
 mul-raise-to-dumped c = search needs
 
--- src/leaves.rt:98:31
 sub-raise-to-dumped : tie.Need-sub-raise-to-dumped
 sub-raise-to-dumped c = search needs
 
--- src/leaves.rt:98:31
 part-raise-to-dumped-start : tie.Need-part-raise-to-dumped-start
 part-raise-to-dumped-start c = search needs
 
--- src/leaves.rt:98:31
 part-raise-to-dumped-end : tie.Need-part-raise-to-dumped-end
 part-raise-to-dumped-end c = search needs
 
--- src/leaves.rt:98:5
 raise-to-dumped-requires : tie.Need-raise-to-dumped-requires
 raise-to-dumped-requires c κs = search needs
 
--- src/leaves.rt:91:1
 same-length : tie.Need-same-length
 same-length c = search needs
 
--- src/leaves.rt:91:1
 returns : tie.Need-returns
 returns c = let s = c .before .before .before .before .before in dumped-acts (s .args .s) (s .args .r) (s .pre .1 .below) _ (s .pre .1) (s .args .run .now) _ (s .pre .0) (s .args .floor) (c .before .before .raise-to-dumped .ensures)
 

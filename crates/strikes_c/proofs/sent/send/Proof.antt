@@ -5,201 +5,155 @@ use borrow.Author.Needs.{needs}
 use Rattle.strikes_c.proofs.sent.send.Statement.{statement}
 use Rattle.strikes_c.proofs.sent.send.Tie as tie
 
--- src/sent.rt:115:25
 enum-known-answer : tie.Need-enum-known-answer
 enum-known-answer c = search needs
 
--- src/sent.rt:115:31
 alone-requires : tie.Need-alone-requires
 alone-requires c κs = search needs
 
--- src/sent.rt:116:25
 enum-told : tie.Need-enum-told
 enum-told c = search needs
 
--- src/sent.rt:116:25
 alone-requires-2 : tie.Need-alone-requires-2
 alone-requires-2 c κs = search needs
 
--- src/sent.rt:117:22
 enum-known-answer-2 : tie.Need-enum-known-answer-2
 enum-known-answer-2 c = search needs
 
--- src/sent.rt:117:44
 verdict-number-requires : tie.Need-verdict-number-requires
 verdict-number-requires c κs = search needs
 
--- src/sent.rt:117:34
 one-requires : tie.Need-one-requires
 one-requires c κs = search needs
 
--- src/sent.rt:118:24
 enum-told-2 : tie.Need-enum-told-2
 enum-told-2 c = search needs
 
--- src/sent.rt:118:24
 one-requires-2 : tie.Need-one-requires-2
 one-requires-2 c κs = search needs
 
--- src/sent.rt:119:23
 enum-told-3 : tie.Need-enum-told-3
 enum-told-3 c = search needs
 
--- src/sent.rt:119:23
 one-requires-3 : tie.Need-one-requires-3
 one-requires-3 c κs = search needs
 
--- src/sent.rt:120:26
 enum-told-4 : tie.Need-enum-told-4
 enum-told-4 c = search needs
 
--- src/sent.rt:120:26
 one-requires-4 : tie.Need-one-requires-4
 one-requires-4 c κs = search needs
 
--- src/sent.rt:121:28
 enum-told-5 : tie.Need-enum-told-5
 enum-told-5 c = search needs
 
--- src/sent.rt:121:28
 one-requires-5 : tie.Need-one-requires-5
 one-requires-5 c κs = search needs
 
--- src/sent.rt:122:24
 enum-known-answer-3 : tie.Need-enum-known-answer-3
 enum-known-answer-3 c = search needs
 
--- src/sent.rt:122:30
 one-requires-6 : tie.Need-one-requires-6
 one-requires-6 c κs = search needs
 
--- src/sent.rt:123:23
 enum-known-answer-4 : tie.Need-enum-known-answer-4
 enum-known-answer-4 c = search needs
 
--- src/sent.rt:123:29
 two-requires : tie.Need-two-requires
 two-requires c κs = search needs
 
--- src/sent.rt:124:24
 enum-known-answer-5 : tie.Need-enum-known-answer-5
 enum-known-answer-5 c = search needs
 
--- src/sent.rt:124:30
 two-requires-2 : tie.Need-two-requires-2
 two-requires-2 c κs = search needs
 
--- src/sent.rt:125:28
 enum-told-6 : tie.Need-enum-told-6
 enum-told-6 c = search needs
 
--- src/sent.rt:125:28
 two-requires-3 : tie.Need-two-requires-3
 two-requires-3 c κs = search needs
 
--- src/sent.rt:126:25
 enum-known-answer-6 : tie.Need-enum-known-answer-6
 enum-known-answer-6 c = search needs
 
--- src/sent.rt:126:35
 two-requires-4 : tie.Need-two-requires-4
 two-requires-4 c κs = search needs
 
--- src/sent.rt:127:25
 enum-known-answer-7 : tie.Need-enum-known-answer-7
 enum-known-answer-7 c = search needs
 
--- src/sent.rt:127:47
 two-requires-5 : tie.Need-two-requires-5
 two-requires-5 c κs = search needs
 
--- src/sent.rt:128:25
 enum-known-answer-8 : tie.Need-enum-known-answer-8
 enum-known-answer-8 c = search needs
 
--- src/sent.rt:128:31
 one-requires-7 : tie.Need-one-requires-7
 one-requires-7 c κs = search needs
 
--- src/sent.rt:129:24
 enum-known-answer-9 : tie.Need-enum-known-answer-9
 enum-known-answer-9 c = search needs
 
--- src/sent.rt:129:61
 four-requires : tie.Need-four-requires
 four-requires c κs = search needs
 
--- src/sent.rt:111:1
 returns : tie.Need-returns
 unfolding answer-number answer-values
 returns c = as-sent (c .before .before .answer .given .1) (c .alone .ensures) (record { number = refl; values = refl })
 
--- src/sent.rt:111:1
 returns-2 : tie.Need-returns-2
 unfolding answer-number answer-values
 returns-2 c = as-sent (c .before .enum-told .given .1) (c .alone2 .ensures) (record { number = refl; values = refl })
 
--- src/sent.rt:111:1
 returns-3 : tie.Need-returns-3
 unfolding answer-number answer-values
 returns-3 c = as-sent (c .before .before .before .answer2 .given .1) (c .one .ensures) (rw (c .before .verdict-number .ensures) (record { number = refl; values = refl }))
 
--- src/sent.rt:111:1
 returns-4 : tie.Need-returns-4
 unfolding answer-number answer-values
 returns-4 c = as-sent (c .before .enum-told2 .given .1) (c .one2 .ensures) (record { number = refl; values = refl })
 
--- src/sent.rt:111:1
 returns-5 : tie.Need-returns-5
 unfolding answer-number answer-values
 returns-5 c = as-sent (c .before .enum-told3 .given .1) (c .one3 .ensures) (record { number = refl; values = refl })
 
--- src/sent.rt:111:1
 returns-6 : tie.Need-returns-6
 unfolding answer-number answer-values
 returns-6 c = as-sent (c .before .enum-told4 .given .1) (c .one4 .ensures) (record { number = refl; values = refl })
 
--- src/sent.rt:111:1
 returns-7 : tie.Need-returns-7
 unfolding answer-number answer-values
 returns-7 c = as-sent (c .before .enum-told5 .given .1) (c .one5 .ensures) (record { number = refl; values = refl })
 
--- src/sent.rt:111:1
 returns-8 : tie.Need-returns-8
 unfolding answer-number answer-values
 returns-8 c = as-sent (c .before .before .answer3 .given .1) (c .one6 .ensures) (record { number = refl; values = refl })
 
--- src/sent.rt:111:1
 returns-9 : tie.Need-returns-9
 unfolding answer-number answer-values
 returns-9 c = as-sent (c .before .before .answer4 .given .1) (c .two .ensures) (record { number = refl; values = refl })
 
--- src/sent.rt:111:1
 returns-10 : tie.Need-returns-10
 unfolding answer-number answer-values
 returns-10 c = as-sent (c .before .before .answer5 .given .1) (c .two2 .ensures) (record { number = refl; values = refl })
 
--- src/sent.rt:111:1
 returns-11 : tie.Need-returns-11
 unfolding answer-number answer-values
 returns-11 c = as-sent (c .before .enum-told6 .given .1) (c .two3 .ensures) (record { number = refl; values = refl })
 
--- src/sent.rt:111:1
 returns-12 : tie.Need-returns-12
 unfolding answer-number answer-values
 returns-12 c = as-sent (c .before .before .answer6 .given .1) (c .two4 .ensures) (record { number = refl; values = refl })
 
--- src/sent.rt:111:1
 returns-13 : tie.Need-returns-13
 unfolding answer-number answer-values
 returns-13 c = as-sent (c .before .before .answer7 .given .1) (c .two5 .ensures) (record { number = refl; values = refl })
 
--- src/sent.rt:111:1
 returns-14 : tie.Need-returns-14
 unfolding answer-number answer-values
 returns-14 c = as-sent (c .before .before .answer8 .given .1) (c .one7 .ensures) (record { number = refl; values = refl })
 
--- src/sent.rt:111:1
 returns-15 : tie.Need-returns-15
 unfolding answer-number answer-values
 returns-15 c = as-sent (c .before .before .answer9 .given .1) (c .four .ensures) (record { number = refl; values = refl })

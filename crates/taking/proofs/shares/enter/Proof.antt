@@ -1,6 +1,6 @@
 use Prim.Native.Nat.{ℕ, _+_}
 use mathlib.Core.Path.{_∙_, ap}
-use Rattle.model.specs.Words.{class-start, class-width}
+use Rattle.model.specs.Words.{class-start}
 use Rattle.model.specs.declared.Class.{Class}
 use Rattle.model.proofs.Bounds.{fit-shares}
 use Rattle.taking.proofs.Draws.{enter-asks, enter-turns, enter-words}

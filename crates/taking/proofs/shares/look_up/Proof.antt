@@ -1,7 +1,7 @@
 use Prim.Native.Nat.{ℕ, _+_}
 use mathlib.Core.Path.{_∙_, ap}
 use Rattle.model.specs.Class.{class-of}
-use Rattle.model.specs.Words.{class-start, class-width}
+use Rattle.model.specs.Words.{class-start}
 use Rattle.model.specs.declared.Class.{Class}
 use Rattle.model.proofs.Bounds.{fit-shares}
 use Rattle.taking.proofs.InRun.{class-asks}

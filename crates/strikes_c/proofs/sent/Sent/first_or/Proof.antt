@@ -3,11 +3,9 @@ use mathlib.Core.List.{[], _∷_}
 use Rattle.strikes_c.proofs.sent.Sent.first_or.Statement.{statement}
 use Rattle.strikes_c.proofs.sent.Sent.first_or.Tie as tie
 
--- src/sent.rt:77:13
 returns : tie.Need-returns
 returns c = none-there _ 0 ((c .before .before .args .self) .first ∷ (c .before .before .args .self) .second ∷ (c .before .before .args .self) .third ∷ (c .before .before .args .self) .fourth ∷ []) _ (c .if1 .taken)
 
--- src/sent.rt:73:5
 returns-2 : tie.Need-returns-2
 returns-2 c = one-there _ 0 ((c .before .before .args .self) .first ∷ (c .before .before .args .self) .second ∷ (c .before .before .args .self) .third ∷ (c .before .before .args .self) .fourth ∷ []) (c .before .before .args .old) (c .if1 .left)
 

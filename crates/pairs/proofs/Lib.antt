@@ -1,0 +1,4 @@
+pub mod Shifts
+pub mod PairWords
+pub mod PairLists
+pub mod Counting
