@@ -58,9 +58,13 @@ pub fn dump(settings: &Settings, fill: Fill, seed: u64) -> Option<Vec<u8>> {
     let (buckets, held) = match fill {
         Fill::Empty => return None,
         Fill::Begun => (1, 1),
-        Fill::Full => (windows.ring(), 3 * windows.slots / 4),
+        Fill::Full | Fill::Alike => (windows.ring(), 3 * windows.slots / 4),
     };
     let mut random = Random::new(seed);
+    let mut fingerprint = |k: u64| match fill {
+        Fill::Alike => (k + 1) * windows.slots,
+        _ => random.word(),
+    };
     let first = READING.div_ceil(windows.bucket);
     let mut dump = Dump::default();
     for class in &mut dump.classes {
@@ -68,7 +72,7 @@ pub fn dump(settings: &Settings, fill: Fill, seed: u64) -> Option<Vec<u8>> {
             .map(|bucket| Listed {
                 bucket: first + bucket,
                 newest: READING,
-                fingerprints: (0..held).map(|_| random.word()).collect(),
+                fingerprints: (0..held).map(&mut fingerprint).collect(),
             })
             .collect();
     }

@@ -36,12 +36,15 @@ const UNKNOWN: u64 = 400_000;
 
 /// The times of a judge.
 struct Judged {
+    slots: u64,
     words: u64,
     empty: f64,
     /// The same words over and over.
     full: f64,
     /// Several contents in turn, `UNKNOWN` words of them together or more.
     turns: f64,
+    /// Fingerprints for which probing starts at one slot.
+    alike: f64,
 }
 
 /// The least time of a judge over five measures, on contents that take turns.
@@ -83,10 +86,12 @@ fn by_words() -> Vec<Judged> {
             let settings = settings(*ring, *slots, 1, *ring);
             let words = settings.words();
             Judged {
+                slots: *slots,
                 words,
                 empty: judge(&settings, Fill::Empty, 1),
                 full: judge(&settings, Fill::Full, 1),
                 turns: judge(&settings, Fill::Full, 2.max(UNKNOWN / words)),
+                alike: judge(&settings, Fill::Alike, 1),
             }
         })
         .collect()
@@ -136,15 +141,15 @@ pub fn measure() -> Growth {
 /// The time of a judge for each word lent.
 pub fn table(growth: &Growth) -> String {
     let mut out = String::from(
-        "\n### A judge by the words lent, ns for each word\n\n| words | empty | full, the same words | full, contents in turn |\n|---:|---:|---:|---:|\n",
+        "\n### A judge by the words lent, ns for each word\n\n| S | words | empty | full, the same words | full, contents in turn | full, all from one slot |\n|---:|---:|---:|---:|---:|---:|\n",
     );
     for judged in &growth.words {
-        let [empty, full, turns] =
-            [judged.empty, judged.full, judged.turns].map(|ns| ns / judged.words as f64);
+        let [empty, full, turns, alike] = [judged.empty, judged.full, judged.turns, judged.alike]
+            .map(|ns| ns / judged.words as f64);
         let _ = writeln!(
             out,
-            "| {} | {empty:.2} | {full:.2} | {turns:.2} |",
-            judged.words
+            "| {} | {} | {empty:.2} | {full:.2} | {turns:.2} | {alike:.2} |",
+            judged.slots, judged.words
         );
     }
     out

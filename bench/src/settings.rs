@@ -68,6 +68,8 @@ pub enum Fill {
     Begun,
     /// Every generation of every class holds three quarters of its slots.
     Full,
+    /// The same with fingerprints for which probing starts at one slot: the worst that a host can choose.
+    Alike,
 }
 
 impl Fill {
@@ -76,6 +78,7 @@ impl Fill {
             Self::Empty => "empty",
             Self::Begun => "one ticket in each class",
             Self::Full => "full",
+            Self::Alike => "full, from one slot",
         }
     }
 }
