@@ -231,8 +231,8 @@ uint64_t strikes_dump(const uint64_t *settings, size_t settings_length, const ui
 /* Reads a dump into a register, beside what it holds: its floor is raised to the dump's, and each fingerprint of the dump is held under
    its generation's newest stamp, drawing as Restored. Where a fingerprint finds no share or no room, its generation fails: the draws
    made for it are given back, what the register holds in that bucket and class goes, and the floor rises to the newest stamp that the
-   dump has for it; the rest goes on. So of a register that held tickets before, one that went may be New again: restore into a register
-   just opened. whole: 1 where no generation failed, else 0. read: the bytes of the dump. Bytes past those are not looked at. A pending
+   dump has for it; the rest goes on. whole: 1 where no generation failed, else 0. Where it is 0, a ticket that the register held before
+   may be New again, so restore into a register just opened. read: the bytes of the dump. Bytes past those are not looked at. A pending
    register is served too.
    Refusals: 1 to 4; 7 where the bytes end before the dump does. */
 uint64_t strikes_restore(const uint64_t *settings, size_t settings_length, uint64_t *words, size_t words_length,

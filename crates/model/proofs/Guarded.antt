@@ -1,8 +1,8 @@
--- What a state owes to a ticket that was struck: every call but an opening, or a restore or resume on its register, keeps it struck,
--- none answers New for it, and a take that answers New strikes it. Assumes nothing.
+-- What a state owes to a ticket that was struck: every call but an opening, and on its register a resume or a restore that comes out
+-- Partly, keeps it struck, none answers New for it, and a take that answers New strikes it. Assumes nothing.
 use Prim.Native.Nat.{ℕ, _<_}
 use mathlib.Core.Path.{_≡_, refl, sym, _∙_, ap, subst}
-use mathlib.Core.Bool.{false}
+use mathlib.Core.Bool.{true, false, _&&_}
 use mathlib.Core.Option.{Option, none, some}
 use lib.Dec.{eqb}
 use lib.ListN.{length, getD, set}
@@ -13,18 +13,22 @@ use Rattle.model.specs.declared.Verdict.{Verdict}
 use Rattle.model.specs.declared.Verdict.the-variants.{New}
 use Rattle.model.specs.declared.Answer.the-variants.{Said}
 use Rattle.runs.proofs.Cases.{by-test, no}
-use Rattle.model.specs.Settings.{usable-at}
+use Rattle.model.specs.Settings.{usable-at, settings-fit}
 use Rattle.model.specs.Generation.{as-read}
 use Rattle.model.specs.Register.{Register}
 use Rattle.model.specs.Judge.{bucket-of, judge-batch}
-use Rattle.model.specs.Dump.{Dump, read-dump}
+use Rattle.model.specs.Dump.{Dump, read-dump, restore, resume}
 use Rattle.model.specs.Words.{State, state-form}
 use Rattle.model.specs.Calls.{Manner, judged, judged-batch, taken, taken-batch, Asking, Deed, Ticket, ContainsHash, Begin, Sweep, DumpTo, Restore, Resume, Floor, Pending, SweptBucket, Call, Open, On, Expire, SetLimits, Close, HeldBy, ClassTotals, no-register, register-at, with-register, ask-of, after-judged, after-taken, asked, after-restored, restored, proven-of, resumed, done-on, step, no-such-register}
-use Rattle.model.specs.Once.{Strike, strike-of, manner-kind, deed-kind, kind, asks-about, takes, remakes}
-use Rattle.model.proofs.Choice.{true-false}
+use Rattle.model.specs.Codes.{went-through}
+use Rattle.model.specs.Once.{Strike, strike-of, manner-kind, deed-kind, kind, asks-about, takes, partly, remakes}
+use Rattle.model.proofs.Choice.{and-false, true-false}
 use Rattle.model.proofs.Struck.{Struck, struck-sweep}
 use Rattle.model.proofs.RingsKept.{RegisterOk}
-use Rattle.model.proofs.SoundnessKept.{there, register-in}
+use Rattle.model.proofs.Bounds.{slots-small, fit-shares, fit-usable}
+use Rattle.model.proofs.BookKept.{pairs-some}
+use Rattle.model.proofs.SoundnessKept.{there, book-in, register-in}
+use Rattle.model.proofs.RestoreStruck.{restore-struck}
 use Rattle.model.proofs.Judging.{read-positive, judge-keeps, judge-not-new, batch-new, take-keeps, take-batch-keeps, take-strikes, take-batch-strikes, take-not-new, take-batch-not-new, begin-keeps}
 
 -- under these settings the state has struck the ticket
@@ -36,7 +40,7 @@ none-some e = no (cc)
 
 -- what one call owes to a struck ticket
 pub record Good (s : Settings) (t : Strike) (call : Call) (x : State) : Type 0 where
-  pub keeps : remakes (t .register) (kind call) ≡ false → StruckIn s t (step s call x .state)
+  pub keeps : remakes (t .register) (kind call) (step s call x .answer) ≡ false → StruckIn s t (step s call x .state)
   pub silent : asks-about (kind call) ≡ some t → step s call x .answer ≡ Said New → ⊥
 
 said-is : (v : Verdict) → Said v ≡ Said New → v ≡ New
@@ -62,7 +66,7 @@ module _ (s : Settings) (t : Strike) (pos : 0 < t .print) where
         (sym (getD-set-other (x .registers) r (t .register) reg no-register (eqb-false (t .register) r e))) struck
 
   -- ---- a call on register r
-  module _ (r : ℕ) (x : State) (h : r < s .registers) (ok : state-form s .Ok x) (struck : StruckIn s t x) where
+  module _ (fit : settings-fit s ≡ true) (r : ℕ) (x : State) (h : r < s .registers) (ok : state-form s .Ok x) (struck : StruckIn s t x) where
     here : r < length (x .registers)
     here = there s r x ok h
 
@@ -90,17 +94,29 @@ module _ (s : Settings) (t : Strike) (pos : 0 < t .print) where
     asked-silent taken a e n = take-not-new (usable-at s r) (s .shares) (register-at r x) (x .book) (ask-of a) (ours a e) (said-is _ n)
     asked-silent taken-batch a e n = take-batch-not-new (usable-at s r) (s .shares) (register-at r x) (x .book) (ask-of a) (ours a e) (said-is _ n)
 
-    restored-keeps : (d : Option Dump) → eqb (t .register) r ≡ false → StruckIn s t (restored s r x d .state)
-    unfolding restored after-restored
+    -- a restore here that comes out Whole, and one elsewhere
+    whole-keeps : (d : Dump) → restore (usable-at s r) (s .shares) d (register-at r x) (x .book) .whole ≡ true
+        → StruckIn s t (with-register r (restore (usable-at s r) (s .shares) d (register-at r x) (x .book) .register) x)
+    whole-keeps d w = put-here r x here struck _
+        (λ b fp n z k. restore-struck (usable-at s r) (s .shares) (slots-small (usable-at s r) (fit-usable s r fit h)) (pairs-some (s .shares) (fit-shares s fit)) b fp n z d (register-at r x) (x .book)
+        (record { register = reg-ok; book = book-in s x ok }) w k)
+
+    restored-keeps : (d : Option Dump) → (eqb (t .register) r && partly (restored s r x d .answer)) ≡ false → StruckIn s t (restored s r x d .state)
+    unfolding restored after-restored partly
     restored-keeps none e = struck
-    restored-keeps (some d) e = put-elsewhere r x here struck _ e
+    restored-keeps (some d) e =
+        by-test (restore (usable-at s r) (s .shares) d (register-at r x) (x .book) .whole) (λ w. whole-keeps d w)
+        (λ w. and-false (eqb (t .register) r) _ e (λ f. put-elsewhere r x here struck _ f) (λ f. true-false (rw w) f))
 
-    resumed-keeps : (p : Option ℕ) (d : Option Dump) → eqb (t .register) r ≡ false → StruckIn s t (resumed s r x p d .state)
-    unfolding resumed after-restored
+    resumed-keeps : (p : Option ℕ) (d : Option Dump) → (eqb (t .register) r && went-through (resumed s r x p d .answer)) ≡ false
+        → StruckIn s t (resumed s r x p d .state)
+    unfolding resumed after-restored went-through
     resumed-keeps p none e = struck
-    resumed-keeps p (some d) e = put-elsewhere r x here struck _ e
+    resumed-keeps p (some d) e =
+        and-false (eqb (t .register) r) _ e (λ f. put-elsewhere r x here struck _ f)
+        (λ f. true-false (by-test (resume (usable-at s r) (s .shares) d p (register-at r x) (x .book) .whole) (λ w. rw w) (λ w. rw w)) f)
 
-    deed-keeps : (d : Deed) → remakes (t .register) (deed-kind r d) ≡ false → StruckIn s t (done-on s r d x .state)
+    deed-keeps : (d : Deed) → remakes (t .register) (deed-kind r d) (done-on s r d x .answer) ≡ false → StruckIn s t (done-on s r d x .state)
     unfolding done-on deed-kind remakes
     deed-keeps (Ticket m a) e = asked-keeps m a
     deed-keeps (ContainsHash fp) e = struck
@@ -127,17 +143,17 @@ module _ (s : Settings) (t : Strike) (pos : 0 < t .print) where
     deed-silent SweptBucket e n = none-some e
 
   -- ---- every call
-  pub good : (call : Call) (x : State) → no-such-register s call ≡ false → state-form s .Ok x → StruckIn s t x → Good s t call x
-  unfolding step kind no-such-register asks-about remakes
-  good (Open limits starts) x there ok struck = record { keeps = λ e. true-false refl e; silent = λ e n. none-some e }
-  good (On r d) x there ok struck =
+  pub good : settings-fit s ≡ true → (call : Call) (x : State) → no-such-register s call ≡ false → state-form s .Ok x → StruckIn s t x → Good s t call x
+  unfolding step kind no-such-register asks-about remakes went-through
+  good fit (Open limits starts) x there ok struck = record { keeps = λ e. true-false refl e; silent = λ e n. none-some e }
+  good fit (On r d) x there ok struck =
       let h = leb-false (s .registers) r there in
-      record { keeps = deed-keeps r x h ok struck d; silent = deed-silent r x h ok struck d }
-  good (Expire ms) x there ok struck = record { keeps = λ e. struck; silent = λ e n. none-some e }
-  good (SetLimits limits) x there ok struck = record { keeps = λ e. struck; silent = λ e n. none-some e }
-  good Close x there ok struck = record { keeps = λ e. struck; silent = λ e n. none-some e }
-  good (HeldBy k number) x there ok struck = record { keeps = λ e. struck; silent = λ e n. none-some e }
-  good (ClassTotals c) x there ok struck = record { keeps = λ e. struck; silent = λ e n. none-some e }
+      record { keeps = deed-keeps fit r x h ok struck d; silent = deed-silent fit r x h ok struck d }
+  good fit (Expire ms) x there ok struck = record { keeps = λ e. struck; silent = λ e n. none-some e }
+  good fit (SetLimits limits) x there ok struck = record { keeps = λ e. struck; silent = λ e n. none-some e }
+  good fit Close x there ok struck = record { keeps = λ e. struck; silent = λ e n. none-some e }
+  good fit (HeldBy k number) x there ok struck = record { keeps = λ e. struck; silent = λ e n. none-some e }
+  good fit (ClassTotals c) x there ok struck = record { keeps = λ e. struck; silent = λ e n. none-some e }
 
 -- ---- a take that answers New strikes its ticket
 module _ (s : Settings) (t : Strike) where

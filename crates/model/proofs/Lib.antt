@@ -18,6 +18,7 @@ pub mod Strike
 pub mod BookKept
 pub mod Judging
 pub mod RestoreKept
+pub mod RestoreStruck
 pub mod SoundnessKept
 pub mod Simulates
 pub mod Guarded

@@ -8,7 +8,7 @@ use lib.Dec.{lit≤}
 use lib.ListN.{replicate}
 use Rattle.model.specs.declared.Class.the-variants.{Feeders}
 use Rattle.model.specs.declared.Verdict.the-variants.{New, Duplicate, Late}
-use Rattle.model.specs.declared.Answer.the-variants.{Refused, Done, Said}
+use Rattle.model.specs.declared.Answer.the-variants.{Refused, Done, Said, Whole, Partly}
 use Rattle.runs.specs.Words.{zeros, sameWords, pad}
 use Rattle.runs.specs.Chunks.{flat}
 use Rattle.runs.specs.Combine.{wideRow, encRow, readRow, testRow, encUp, readUp, testUp}
@@ -22,10 +22,10 @@ use Rattle.model.specs.BookWords.{read-pairs, pairs-sound, place-sound, 
 use Rattle.model.specs.Register.{compute-register}
 use Rattle.model.specs.RegisterWords.{heading-sound}
 use Rattle.model.specs.Judge.{compute-judge}
-use Rattle.model.specs.Dump.{compute-dump}
+use Rattle.model.specs.Dump.{word-bytes, compute-dump}
 use Rattle.model.specs.Words.{front-sound, state-form}
 use Rattle.model.specs.Codes.{compute-codes, went-through}
-use Rattle.model.specs.Calls.{Manner, judged, taken, Ticket, Sweep, Call, Open, On, Close, opened, compute-calls}
+use Rattle.model.specs.Calls.{Manner, judged, taken, Ticket, Sweep, Restore, Resume, Call, Open, On, Close, opened, compute-calls}
 use Rattle.model.specs.View.{Given, answered, left-by, words-after}
 use Rattle.model.specs.Soundness.{Admitted, Vetted}
 use Rattle.model.specs.Once.{kind, takes, asks-about, remade-among, Answered, moments, Calls, Replaces, Aside, LeavesAlone, AllAside, compute-once}
@@ -100,6 +100,39 @@ pub new-again : moments words (given (open-at 4) ∷ given (ask taken 1 7 6) ∷
     ≡ Answered (open-at 4) Done ∷ Answered (ask taken 1 7 6) (Said New) ∷ Answered (open-at 4) Done ∷ Answered (ask taken 1 7 6) (Said New) ∷ []
 unfolding compute-all
 new-again = refl
+
+-- a restore that comes out Whole does not: beside fingerprint 8, which it brings, 7 stays a duplicate
+abbrev brings : List ℕ → Call
+brings dump = On 0 (Restore (flat word-bytes dump))
+
+abbrev one-more : Call
+one-more = brings (0 ∷ 1 ∷ 3 ∷ 5 ∷ 1 ∷ 8 ∷ 0 ∷ 0 ∷ [])
+
+pub held-through-a-restore : (moments words (given (open-at 4) ∷ given (ask taken 1 7 6) ∷ given one-more ∷ given (ask taken 1 7 6) ∷ [])
+    ≡ Answered (open-at 4) Done ∷ Answered (ask taken 1 7 6) (Said New) ∷ Answered one-more (Whole 64) ∷ Answered (ask taken 1 7 6) (Said Duplicate) ∷ [])
+    × (remade-among 0 (left-by opened-words (given (ask taken 1 7 6))) (given one-more ∷ []) ≡ false)
+unfolding compute-all
+held-through-a-restore = (refl, refl)
+
+-- and one that comes out Partly does: three fingerprints find no room beside 7, their bucket is dropped, and the floor rises to the
+-- dump's newest stamp, 5, alone
+abbrev three-more : Call
+three-more = brings (0 ∷ 1 ∷ 3 ∷ 5 ∷ 3 ∷ 8 ∷ 9 ∷ 10 ∷ 0 ∷ 0 ∷ [])
+
+pub new-after-partly : moments words (given (open-at 4) ∷ given (ask taken 1 7 6) ∷ given three-more ∷ given (ask taken 1 7 6) ∷ [])
+    ≡ Answered (open-at 4) Done ∷ Answered (ask taken 1 7 6) (Said New) ∷ Answered three-more (Partly 80) ∷ Answered (ask taken 1 7 6) (Said New) ∷ []
+unfolding compute-all
+new-after-partly = refl
+
+-- and so does a resume, which forgets the floor: 7 was swept, and the floor 6 made it Late
+abbrev nothing-proven : Call
+nothing-proven = On 0 (Resume (flat word-bytes (0 ∷ 0 ∷ 0 ∷ 0 ∷ [])) 0 0)
+
+pub new-after-resume : moments words (given (open-at 4) ∷ given (ask taken 1 7 6) ∷ given (On 0 (Sweep 8)) ∷ given (ask judged 1 7 6) ∷ given nothing-proven ∷ given (ask taken 1 7 6) ∷ [])
+    ≡ Answered (open-at 4) Done ∷ Answered (ask taken 1 7 6) (Said New) ∷ Answered (On 0 (Sweep 8)) Done ∷ Answered (ask judged 1 7 6) (Said Late)
+    ∷ Answered nothing-proven (Whole 32) ∷ Answered (ask taken 1 7 6) (Said New) ∷ []
+unfolding compute-all
+new-after-resume = refl
 
 -- ---- a take that is not New: buckets 4 and 2 have one position; judge says New, take says Late, and the held ticket stays
 pub late-by-position : moments words

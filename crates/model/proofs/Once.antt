@@ -9,6 +9,7 @@ use lib.ListN.{length}
 use borrow.Author.Tests.{eqb-true}
 use Rattle.model.specs.declared.Settings.{Settings}
 use Rattle.model.specs.declared.Verdict.the-variants.{New}
+use Rattle.model.specs.declared.Answer.{Answer}
 use Rattle.model.specs.declared.Answer.the-variants.{Refused, Said}
 use Rattle.runs.proofs.Cases.{by-test, no}
 use Rattle.model.specs.Settings.{settings-of, usable-at, words-needed}
@@ -20,10 +21,9 @@ use Rattle.model.specs.View.{Given, answered, left-by, words-after}
 use Rattle.model.specs.Codes.{went-through}
 use Rattle.model.specs.Soundness.{Vetted}
 use Rattle.model.specs.Once.{Strike, Kind, kind, asks-about, takes, remakes, remade-by, remade-among, NoTicketTwice, Moment, Answered, Accepted, CalledNew, remade, unless, Never, Once, moments, Event, Calls, Replaces, Aside, LeavesAlone, left-by-event, event-moments, all-moments, AllAside, NoTicketTwiceAmong}
-use Rattle.model.proofs.Choice.{or-false, and-false, true-false}
+use Rattle.model.proofs.Choice.{or-false, true-false}
 use Rattle.model.proofs.Struck.{Struck}
-use Rattle.model.proofs.Refusals.{step-through}
-use Rattle.model.proofs.Simulates.{refused-words, entered, vetted-ok, one-settings, reply-is, through-is, after-vetted, after-holds}
+use Rattle.model.proofs.Simulates.{refused-words, entered, fit-settings, vetted-ok, one-settings, reply-is, after-vetted, after-holds}
 use Rattle.model.proofs.Guarded.{StruckIn, good, strikes, none-some}
 
 -- ---- the guard: under whatever settings the words are vetted, the state that they hold has struck the ticket
@@ -64,8 +64,8 @@ module _ (st ws : List ℕ) (call : Call) where
         (subst (λ (x : State). StruckIn s t x) (sym (after-holds st ws call z)) h)
 
     -- an opening asks about no ticket and remakes every register
-    opens-all : (r : ℕ) (c : Call) → is-open c ≡ true → remakes r (kind c) ≡ true
-    unfolding is-open kind remakes
+    opens-all : (r : ℕ) (c : Call) → is-open c ≡ true → remakes r (kind c) (step s c held .answer) ≡ true
+    unfolding is-open kind remakes step went-through
     opens-all r (Open limits starts) o = refl
     opens-all r (On q d) o = no (cc)
     opens-all r (Expire ms) o = no (cc)
@@ -84,10 +84,8 @@ module _ (st ws : List ℕ) (call : Call) where
     opens-silent t (HeldBy k number) o e = none-some e
     opens-silent t (ClassTotals c) o e = none-some e
 
-    not-remade : (t : Strike) → remade (t .register) seen ≡ false → remakes (t .register) (kind call) ≡ false
-    not-remade t e =
-        and-false (remakes (t .register) (kind call)) (went-through (reply st ws call)) e (λ d. d)
-        (λ d. true-false (ap went-through (reply-is st ws call z) ∙ through-is (step s call held .answer) (step-through s call held)) d)
+    not-remade : (t : Strike) → remade (t .register) seen ≡ false → remakes (t .register) (kind call) (step s call held .answer) ≡ false
+    not-remade t e = sym (ap (λ (a : Answer). remakes (t .register) (kind call) a) (reply-is st ws call z)) ∙ e
 
   module _ (t : Strike) (pos : 0 < t .print) (g : Guarded t ws) where
     call-keeps : remade (t .register) seen ≡ false → Guarded t (after st ws call)
@@ -97,7 +95,7 @@ module _ (st ws : List ℕ) (call : Call) where
         let r = not-remade z t e in
         by-test (is-open call) (λ o. true-false (opens-all z (t .register) call o) r)
         (λ o. let v = was-vetted z o in
-        guarded-after z t (good s t pos call held (entered st ws call z .register) (vetted-ok st ws v) (g .struck st v) .keeps r)))
+        guarded-after z t (good s t pos (fit-settings st (v .fit)) call held (entered st ws call z .register) (vetted-ok st ws v) (g .struck st v) .keeps r)))
         (λ d. subst (λ (l : List ℕ). Guarded t l) (sym (refused-words st ws call d)) g)
 
     call-silent : CalledNew t seen → ⊥
@@ -106,7 +104,7 @@ module _ (st ws : List ℕ) (call : Call) where
         (λ d. let z = eqb-true (refused st ws call) 0 d in
         by-test (is-open call) (λ o. opens-silent z t call o (c .0))
         (λ o. let v = was-vetted z o in
-        good s t pos call held (entered st ws call z .register) (vetted-ok st ws v) (g .struck st v) .silent (c .0) (sym (reply-is st ws call z) ∙ c .1)))
+        good s t pos (fit-settings st (v .fit)) call held (entered st ws call z .register) (vetted-ok st ws v) (g .struck st v) .silent (c .0) (sym (reply-is st ws call z) ∙ c .1)))
         (λ d. refused-new d (c .1))
 
   takes-asks : (t : Strike) (k : Kind) → takes k ≡ some t → asks-about k ≡ some t
@@ -114,7 +112,8 @@ module _ (st ws : List ℕ) (call : Call) where
   takes-asks t (Kind.Asks u) e = absurd (none-some e)
   takes-asks t (Kind.Takes u) e = e
   takes-asks t Kind.Opens e = e
-  takes-asks t (Kind.Remakes r) e = e
+  takes-asks t (Kind.Restores r) e = e
+  takes-asks t (Kind.Resumes r) e = e
   takes-asks t Kind.Other e = e
 
   -- a take that answers New leaves its ticket guarded

@@ -44,7 +44,7 @@ module _ (u : Usable) (b : Shares) (small : u .slots ≤ 1_024) (some-pairs : 1 
     room-fine fp h k Collides r new ok = record { register = ok .register; book = new }
     room-fine fp h k NoSlots r new ok = record { register = ok .register; book = new }
 
-    one-fine : (fp : ℕ) (h : Holding) → Held h → Held (hold-one u b c d fp h)
+    pub one-fine : (fp : ℕ) (h : Holding) → Held h → Held (hold-one u b c d fp h)
     unfolding hold-one
     one-fine fp h ok =
         let s = second-of (d .bucket) (u .bucket) in
@@ -54,7 +54,7 @@ module _ (u : Usable) (b : Shares) (small : u .slots ≤ 1_024) (some-pairs : 1 
         (drawn-ok b (Restored c) s (h .book) some-pairs (second-short (d .bucket) (u .bucket)) g (ok .book)) ok)
         (λ g. record { register = ok .register; book = ok .book }))
 
-    all-fine : (fps : List ℕ) (h : Holding) → Held h → Held (hold-all u b c d fps h)
+    pub all-fine : (fps : List ℕ) (h : Holding) → Held h → Held (hold-all u b c d fps h)
     unfolding hold-all
     all-fine [] h ok = ok
     all-fine (fp ∷ fps) h ok = all-fine fps (hold-one u b c d fp h) (one-fine fp h ok)
@@ -68,24 +68,28 @@ module _ (u : Usable) (b : Shares) (small : u .slots ≤ 1_024) (some-pairs : 1 
   abbrev Whole : Restoring → Type 0
   Whole r = Fine u b (r .register) (r .book)
 
-  settled-fine : (c : Class) (d : Dumped) (whole : Bool) (h : Holding) → Fine u b (h .register) (h .book) → Whole (settled u c d whole h)
+  pub settled-fine : (c : Class) (d : Dumped) (whole : Bool) (h : Holding) → Fine u b (h .register) (h .book) → Whole (settled u c d whole h)
   unfolding settled
   settled-fine c d whole h ok =
       split-if Whole (h .fits) (λ e. record { register = ok .register; book = ok .book })
       (λ e. record { register = failed-ok u c d (h .register) (ok .register); book = returned-fine (h .draws) (Restored c) _ (h .book) (ok .book) })
 
-  class-fine : (c : Class) (ds : List Dumped) (r : Restoring) → Whole r → Whole (restore-class u b c ds r)
+  pub class-fine : (c : Class) (ds : List Dumped) (r : Restoring) → Whole r → Whole (restore-class u b c ds r)
   unfolding restore-class
   class-fine c [] r ok = ok
   class-fine c (d ∷ ds) r ok =
       let start : Holding = record { register = r .register; book = r .book; draws = 0; fits = true } in
       class-fine c ds _ (settled-fine c d (r .whole) (hold-all u b c d (d .prints) start) (all-fine c d (d .prints) start (record { register = ok .register; book = ok .book })))
 
+  pub dumped-ok : (n : ℕ) (reg : Register) → RegisterOk u reg → RegisterOk u (raised-to-dumped n reg)
+  unfolding raised-to-dumped
+  dumped-ok n reg ok = floor-ok u _ reg ok
+
   pub restore-fine : (d : Dump) (reg : Register) (k : Book) → Fine u b reg k → Whole (restore u b d reg k)
-  unfolding restore raised-to-dumped
+  unfolding restore
   restore-fine d reg k ok =
       class-fine Own (d .classes .of-own) _ (class-fine Peers (d .classes .of-peers) _ (class-fine Feeders (d .classes .of-feeders) _
-      (record { register = floor-ok u _ reg (ok .register); book = ok .book })))
+      (record { register = dumped-ok (d .floor) reg (ok .register); book = ok .book })))
 
   proven-fine : (p : Option ℕ) (reg : Register) → RegisterOk u reg → RegisterOk u (raised-to-proven p reg)
   unfolding raised-to-proven

@@ -1,9 +1,10 @@
 -- "No ticket is accepted twice", for every list of calls on the same words, whatever the clock reads.
 --
 -- After a take or a take_batch answered New for a fingerprint (as read) and a stamp on a register, no later judge, take,
--- judge_batch or take_batch on that register answers New for the same, up to an opening, or a restore or resume on that register,
--- that went through. The words at the start are any words; each call brings its own settings, register, reading and bytes; calls
--- that are refused stand in the list like the others.
+-- judge_batch or take_batch on that register answers New for the same, up to an opening that went through, a resume on that register
+-- that went through, or a restore on it that came out Partly. A restore that came out Whole only adds, and ends nothing. The words at
+-- the start are any words; each call brings its own settings, register, reading and bytes; calls that are refused stand in the list
+-- like the others.
 use Prim.Native.Nat.{ℕ}
 use mathlib.Core.Path.{_≡_}
 use mathlib.Core.Bool.{Bool, true, false, _&&_, _||_}
@@ -12,7 +13,7 @@ use mathlib.Core.Option.{Option, none, some}
 use lib.Dec.{eqb}
 use Rattle.model.specs.declared.Verdict.the-variants.{New}
 use Rattle.model.specs.declared.Answer.{Answer}
-use Rattle.model.specs.declared.Answer.the-variants.{Said}
+use Rattle.model.specs.declared.Answer.the-variants.{Refused, Done, Said, Yes, No, Begun, Already, Dumped, Whole, Partly, NoFloor, FloorAt, SweptTo, Entries, Totals}
 use Rattle.model.specs.Settings.{settings-of}
 use Rattle.model.specs.Generation.{as-read}
 use Rattle.model.specs.Calls.{Manner, judged, judged-batch, taken, taken-batch, Asking, Deed, Ticket, ContainsHash, Begin, Sweep, DumpTo, Restore, Resume, Floor, Pending, SweptBucket, Call, Open, On, Expire, SetLimits, Close, HeldBy, ClassTotals, register-at, held-in}
@@ -30,9 +31,9 @@ pub record Strike : Type 0 where
 pub data Kind : Type 0 where
   -- judge and judge_batch; take and take_batch
   Asks Takes : Strike → Kind
-  -- an opening; a restore or resume on a register
+  -- an opening; a restore and a resume on a register
   Opens : Kind
-  Remakes : ℕ → Kind
+  Restores Resumes : ℕ → Kind
   -- any other
   Other : Kind
 
@@ -51,8 +52,8 @@ deed-kind r (ContainsHash fp) = Other
 deed-kind r (Begin number) = Other
 deed-kind r (Sweep ms) = Other
 deed-kind r (DumpTo out) = Other
-deed-kind r (Restore bytes) = Remakes r
-deed-kind r (Resume bytes flag floor) = Remakes r
+deed-kind r (Restore bytes) = Restores r
+deed-kind r (Resume bytes flag floor) = Resumes r
 deed-kind r Floor = Other
 deed-kind r Pending = Other
 deed-kind r SweptBucket = Other
@@ -70,27 +71,49 @@ unfoldable pub asks-about : Kind → Option Strike
 asks-about (Asks t) = some t
 asks-about (Takes t) = some t
 asks-about Opens = none
-asks-about (Remakes r) = none
+asks-about (Restores r) = none
+asks-about (Resumes r) = none
 asks-about Other = none
 
 unfoldable pub takes : Kind → Option Strike
 takes (Asks t) = none
 takes (Takes t) = some t
 takes Opens = none
-takes (Remakes r) = none
+takes (Restores r) = none
+takes (Resumes r) = none
 takes Other = none
 
-unfoldable pub remakes : ℕ → Kind → Bool
-remakes r (Asks t) = false
-remakes r (Takes t) = false
-remakes r Opens = true
-remakes r (Remakes q) = eqb r q
-remakes r Other = false
+-- a restore that came out Partly: some generation failed, and what its bucket held has gone
+unfoldable pub partly : Answer → Bool
+partly (Refused n) = false
+partly Done = false
+partly (Said v) = false
+partly Yes = false
+partly No = false
+partly Begun = false
+partly Already = false
+partly (Dumped n) = false
+partly (Whole n) = false
+partly (Partly n) = true
+partly NoFloor = false
+partly (FloorAt f) = false
+partly (SweptTo b ms) = false
+partly (Entries n) = false
+partly (Totals e h u x) = false
+
+-- what makes register r afresh, by its answer
+unfoldable pub remakes : ℕ → Kind → Answer → Bool
+remakes r (Asks t) a = false
+remakes r (Takes t) a = false
+remakes r Opens a = went-through a
+remakes r (Restores q) a = eqb r q && partly a
+remakes r (Resumes q) a = eqb r q && went-through a
+remakes r Other a = false
 
 -- ---- lists of calls
--- an opening, or a restore or resume on register r, that went through
+-- an opening or a resume on register r that went through, or a restore on it that came out Partly
 abbrev pub remade-by : ℕ → Call → Answer → Bool
-remade-by r c a = remakes r (kind c) && went-through a
+remade-by r c a = remakes r (kind c) a
 
 unfoldable pub remade-among : ℕ → List ℕ → List Given → Bool
 remade-among r ws [] = false
@@ -186,5 +209,5 @@ NoTicketTwiceAmong = (ws : List ℕ) (es : List Event) (r : ℕ) → AllAside r 
 
 -- the definitions of this file, for a theorem that computes
 unfoldable pub compute-once : ℕ
-unfolding words-after manner-kind deed-kind kind asks-about takes remakes remade-among moments left-by-event event-moments all-moments
+unfolding words-after manner-kind deed-kind kind asks-about takes partly remakes remade-among moments left-by-event event-moments all-moments
 compute-once = 0

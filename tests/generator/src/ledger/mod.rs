@@ -2,7 +2,8 @@
 //! by document 01's rules, and held against every answer.
 //!
 //! - **Once.** A ticket that take answered New is never New again on its register, up to an
-//!   opening, or a restore or resume on that register, that went through.
+//!   opening or a resume on that register that went through, or a restore on it that came out
+//!   Partly.
 //! - **Equal part.** A party within its equal part is never turned away (`modest`).
 //! - **Entries** are counted here, draw by draw, and compared with what the machine says.
 //!
@@ -101,13 +102,15 @@ impl Ledger {
                 self.shares.closed = true;
                 Ok(Noted::default())
             }
+            (Call::Restore { register, bytes }, _) => {
+                self.restored(*register as usize, bytes, false, answer)
+            }
             (
-                Call::Restore { register, bytes }
-                | Call::Resume {
+                Call::Resume {
                     register, bytes, ..
                 },
                 _,
-            ) => self.restored(*register as usize, bytes, answer),
+            ) => self.restored(*register as usize, bytes, true, answer),
             _ => self.looked(call, answer),
         }
     }
@@ -188,13 +191,16 @@ impl Ledger {
     }
 
     /// A dump restored or resumed: every listed fingerprint draws, and at a generation's first
-    /// failure its draws go back and its bucket is dropped.
-    fn restored(&mut self, register: usize, bytes: &[u8], answer: &Answer) -> Seen {
+    /// failure its draws go back and its bucket is dropped. Then a struck ticket may be New again,
+    /// and after a resume, which forgets the floor.
+    fn restored(&mut self, register: usize, bytes: &[u8], forgets: bool, answer: &Answer) -> Seen {
         let Some((dump, read)) = dump::read(bytes) else {
             return Err("the dump is cut short".into());
         };
-        self.struck[register].clear();
         let whole = self.enter(register, &dump);
+        if forgets || !whole {
+            self.struck[register].clear();
+        }
         let due = if whole {
             Answer::Whole(read)
         } else {
