@@ -2,12 +2,12 @@
 use Prim.Native.Nat.{ℕ, _+_, _-_, _*_, _≤_, _<_}
 use mathlib.Core.Path.{_≡_}
 use mathlib.Core.Bool.{true}
-use mathlib.Core.List.{List, _∷_}
+use mathlib.Core.List.{List, _∷_, _++_}
 use lib.ListN.{length, getD, drop}
 use Rattle.model.specs.declared.Deliverer.{Deliverer}
 use Rattle.model.specs.Class.{kind-of}
 use Rattle.model.specs.Book.{Pair, Place, total, entries, with-pairs, later-pairs}
-use Rattle.model.specs.BookWords.{most-entries, read-pairs, pairs-sound, number-word}
+use Rattle.model.specs.BookWords.{most-entries, pair-words, read-pairs, pairs-sound, number-word}
 use Rattle.book.specs.declared.place.Seen.{Seen}
 use Rattle.book.specs.declared.place.Left.{Left}
 use Rattle.pairs.specs.Pairs.{before, second-at, raise-at, lower-at, count-at, insert-at, remove-at}
@@ -72,4 +72,4 @@ left-of t p = record { pairs = length (later-pairs t (p .pairs)); gone = entries
 
 -- the words of a new place, over words that were there
 abbrev pub opened-words : Deliverer → ℕ → List ℕ → List ℕ
-opened-words who s ws = kind-of who ∷ number-word who 0 ∷ 1 ∷ 1 ∷ s ∷ 1 ∷ drop 6 ws
+opened-words who s ws = kind-of who ∷ number-word who 0 ∷ 1 ∷ 1 ∷ pair-words (record { second = s; count = 1 }) ++ drop 6 ws

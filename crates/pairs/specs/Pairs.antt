@@ -1,4 +1,4 @@
--- A place's pairs: how they lie in words, in this file alone, and where a second stands among them.
+-- A place's pairs in its cells, as lists (how a pair lies in words is said in model's BookWords), and where a second stands among them.
 use Prim.Native.Nat.{ℕ, zero, suc, _+_, _-_, _*_, _≤_, _<_}
 use mathlib.Core.Path.{_≡_}
 use mathlib.Core.Bool.{Bool, false, cond}

@@ -2,15 +2,16 @@
 // and 2k + 1 (its count). Other crates move and clear places as wholes, and read or write no cell by itself; what these functions
 // do is said of lists of pairs.
 pub mod moves;
-mod sound;
 
-pub use sound::are_sound;
+use numbers::capped::TOP32;
 ghost use Prim.Native.Nat.{_+_, _*_, _≤_, _<_};
 ghost use mathlib.Core.Path.{_≡_};
+ghost use mathlib.Core.Bool.{_&&_};
 ghost use lib.ListN.{length};
+ghost use lib.Dec.{eqb};
 ghost use Rattle.runs.specs.Turns.{Turns};
 ghost use Rattle.model.specs.Book.{total};
-ghost use Rattle.model.specs.BookWords.{most-entries, read-pairs};
+ghost use Rattle.model.specs.BookWords.{most-entries, read-pairs, pairs-sound as rising};
 ghost use Rattle.pairs.specs.Pairs.{cells-words, passed-in, second-at, Holds, Takes, Loses, raised, lowered, inserted, removed, count-at};
 
 // The pairs that are earlier than a second: how many, and their entries.
@@ -104,4 +105,28 @@ pub fn remove(cells: &mut [u64], n: usize, k: usize, m: usize)
     let a = 2 * k;
     let e = 2 * n;
     moves::close_up(&mut cells[a..e], 2 * m);
+}
+
+// The first n pairs are sound: seconds rising and 32-bit, counts at least 1, and the counts add up to `entries` exactly.
+// What is left of `entries` is counted down, so that nothing is added up and nothing wraps.
+pub fn are_sound(cells: &[u64], n: usize, entries: u64) -> bool
+    requires { ⌜ (n ≤ 512) × (2 * n ≤ length (now cells)) ⌝ }
+    ensures { λ r. ⌜ r ≡ (rising 0 (read-pairs n (now (cells .entry))) && eqb (total (read-pairs n (now (cells .entry)))) entries) ⌝ }
+{
+    let mut least = 0u64;
+    let mut left = entries;
+    let mut i = 0;
+    while i < n {
+        let a = 2 * i;
+        let b = a + 1;
+        let second = cells[a];
+        let count = cells[b];
+        if !((least <= second) & ((second <= TOP32) & ((1 <= count) & (count <= left)))) {
+            return false;
+        }
+        least = second + 1;
+        left -= count;
+        i += 1;
+    }
+    left == 0
 }

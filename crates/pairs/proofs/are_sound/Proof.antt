@@ -4,8 +4,8 @@ use native.Mathlib.Omega.{arith}
 use borrow.Author.Needs.{needs}
 use borrow.Author.Tests.{not-true, not-false}
 use Rattle.pairs.proofs.Counting.{Left, left-all, left-none, left-bad, left-on}
-use Rattle.pairs.proofs.sound.are_sound.Statement.{statement}
-use Rattle.pairs.proofs.sound.are_sound.Tie as tie
+use Rattle.pairs.proofs.are_sound.Statement.{statement}
+use Rattle.pairs.proofs.are_sound.Tie as tie
 
 abbrev Inv-loop : tie.InvT-loop
 Inv-loop cells n entries least₀ left₀ i₀ least left i = Left cells n entries least left i
