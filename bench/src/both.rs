@@ -51,6 +51,9 @@ pub fn ours(settings: &Settings, dump: Option<&[u8]>) -> Ours {
     ours
 }
 
+/// The steps in which the soundness test follows the probing for a fingerprint.
+pub const NEAR: u64 = 128;
+
 /// What a register holds, as a dump: where it is full the buckets that its windows reach at the reading, all but one, so that a ticket
 /// ahead of all of them finds a position; none for an empty register.
 pub fn dump(settings: &Settings, fill: Fill, seed: u64) -> Option<Vec<u8>> {
@@ -58,12 +61,18 @@ pub fn dump(settings: &Settings, fill: Fill, seed: u64) -> Option<Vec<u8>> {
     let (buckets, held) = match fill {
         Fill::Empty => return None,
         Fill::Begun => (1, 1),
-        Fill::Full | Fill::Alike => (windows.ring(), 3 * windows.slots / 4),
+        Fill::Full | Fill::Alike | Fill::Distant => (windows.ring(), 3 * windows.slots / 4),
     };
     let mut random = Random::new(seed);
-    let mut fingerprint = |k: u64| match fill {
-        Fill::Alike => (k + 1) * windows.slots,
-        _ => random.word(),
+    let mut fingerprint = |k: u64| {
+        let word = random.word();
+        let from = |slot: u64| word / windows.slots * windows.slots + slot;
+        match fill {
+            Fill::Alike => from(0),
+            Fill::Distant if k + 1 == held => from(k.saturating_sub(NEAR)),
+            Fill::Distant => from(k.saturating_sub(NEAR - 1)),
+            _ => word,
+        }
     };
     let first = READING.div_ceil(windows.bucket);
     let mut dump = Dump::default();

@@ -3,6 +3,7 @@
 use std::fmt::Write;
 
 use calls::{Limits, Settings, Window, Windows};
+use generator::random::Random;
 use strikes::raw;
 
 use crate::both::{self, Ours, READING};
@@ -45,6 +46,8 @@ struct Judged {
     turns: f64,
     /// Fingerprints for which probing starts at one slot.
     alike: f64,
+    /// Fingerprints that lie as far on as the soundness test follows probing, and one further.
+    distant: f64,
 }
 
 /// The least time of a judge over five measures, on contents that take turns.
@@ -92,9 +95,32 @@ fn by_words() -> Vec<Judged> {
                 full: judge(&settings, Fill::Full, 1),
                 turns: judge(&settings, Fill::Full, 2.max(UNKNOWN / words)),
                 alike: judge(&settings, Fill::Alike, 1),
+                distant: judge(&settings, Fill::Distant, 1),
             }
         })
         .collect()
+}
+
+/// Of so many fillings of three quarters of 1,024 slots with hashes, those in which a fingerprint lies further on than the soundness
+/// test follows probing.
+fn beyond(fillings: u64) -> usize {
+    const SLOTS: usize = 1_024;
+    let mut random = Random::new(1);
+    let mut furthest = || {
+        let mut held = [false; SLOTS];
+        (0..3 * SLOTS / 4)
+            .map(|_| {
+                let first = random.word() as usize % SLOTS;
+                let passed = (0..SLOTS).take_while(|step| held[(first + step) % SLOTS]);
+                let passed = passed.count();
+                held[(first + passed) % SLOTS] = true;
+                passed as u64
+            })
+            .max()
+    };
+    (0..fillings)
+        .filter(|_| furthest() >= Some(both::NEAR))
+        .count()
 }
 
 /// The time of a take, over a million of them with the clock going on.
@@ -141,17 +167,30 @@ pub fn measure() -> Growth {
 /// The time of a judge for each word lent.
 pub fn table(growth: &Growth) -> String {
     let mut out = String::from(
-        "\n### A judge by the words lent, ns for each word\n\n| S | words | empty | full, the same words | full, contents in turn | full, all from one slot |\n|---:|---:|---:|---:|---:|---:|\n",
+        "\n### A judge by the words lent, ns for each word\n\n| S | words | empty | full, the same words | full, contents in turn | full, all from one slot | full, as far on as can be |\n|---:|---:|---:|---:|---:|---:|---:|\n",
     );
     for judged in &growth.words {
-        let [empty, full, turns, alike] = [judged.empty, judged.full, judged.turns, judged.alike]
-            .map(|ns| ns / judged.words as f64);
+        let [empty, full, turns, alike, distant] = [
+            judged.empty,
+            judged.full,
+            judged.turns,
+            judged.alike,
+            judged.distant,
+        ]
+        .map(|ns| ns / judged.words as f64);
         let _ = writeln!(
             out,
-            "| {} | {} | {empty:.2} | {full:.2} | {turns:.2} | {alike:.2} |",
+            "| {} | {} | {empty:.2} | {full:.2} | {turns:.2} | {alike:.2} | {distant:.2} |",
             judged.slots, judged.words
         );
     }
+    const FILLINGS: u64 = 100_000;
+    let _ = writeln!(
+        out,
+        "\nOf {FILLINGS} fillings of 768 of 1024 slots with hashes, {} have a fingerprint that lies {} slots or more further on than where probing for it starts.",
+        beyond(FILLINGS),
+        both::NEAR
+    );
     out
 }
 

@@ -68,8 +68,11 @@ pub enum Fill {
     Begun,
     /// Every generation of every class holds three quarters of its slots.
     Full,
-    /// The same with fingerprints for which probing starts at one slot: the worst that a host can choose.
+    /// The same with fingerprints for which probing starts at one slot.
     Alike,
+    /// The same with fingerprints that lie as far on as the soundness test follows probing, and a last one that lies further, so
+    /// that all are tested twice: the worst that a host can choose.
+    Distant,
 }
 
 impl Fill {
@@ -79,6 +82,7 @@ impl Fill {
             Self::Begun => "one ticket in each class",
             Self::Full => "full",
             Self::Alike => "full, from one slot",
+            Self::Distant => "full, as far on as can be",
         }
     }
 }

@@ -20,6 +20,15 @@ def slots():
     print("held f:1\ncontains_hash 0 261888\ncontains_hash 0 262229")
 
 
+def crowd():
+    print("\n# S of 1,024 with fingerprints for which probing starts at one slot: the last ones lie far on, and round the end.")
+    opening(1, 2, "0 0 0 0 1000 1024")
+    for number in range(1, 201):
+        print(f"take 0 {1024 * number + 1000} 5000 5000 1 f:1")
+    print("judge 0 205800 5000 5000 1 f:1\ntake 0 2024 5000 5000 1 f:1\njudge 0 206824 5000 5000 1 f:1")
+    print("contains_hash 0 205800\ncontains_hash 0 206824\ndump 0")
+
+
 def pairs():
     print("\n# E of 512: a place lists 512 seconds and no more, while expire frees nothing.")
     opening(1, 512, "0 0 0 0 1000 2")
@@ -48,6 +57,7 @@ if __name__ == "__main__":
     print("# Each of the largest settings filled exactly, and one past it.")
     print("# python3 tests/lists/bounds.py | build/oracle record")
     slots()
+    crowd()
     pairs()
     places()
     ring()

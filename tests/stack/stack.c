@@ -4,7 +4,7 @@
  * A call runs on a stack of its own that was filled with a pattern. How far down the pattern is gone afterwards, less what an empty
  * function takes, is what the call took: its frames, those of all that it calls, and the arguments that go by the stack.
  *
- * Calls come at random, with a fixed seed, under small, middling and the largest settings, so that each refusal and each verdict comes,
+ * Calls come at random, with a fixed seed, under small, middling and the largest settings and on slots that are sorted, so that each refusal and each verdict comes,
  * Whole and Partly too; where one does not come, the program ends with 1.
  */
 #define _XOPEN_SOURCE 700
@@ -132,7 +132,18 @@ static void limits_at(uint64_t most) {
         limits[i] = most;
 }
 
-/* Opens words with these settings, and makes calls at random. */
+/* The first generation of the first register holds three quarters of its slots, by fingerprints for which probing starts at one slot:
+ * too far on to be followed, so that they are sorted. */
+static void crowd(uint64_t places, uint64_t pairs, uint64_t slots) {
+    uint64_t *generation = words + 20 + 3 * (4 + places * (2 * pairs + 4)) + 24;
+    memset(generation, 0, 8 * (4 + slots));
+    generation[0] = slots;
+    generation[1] = 3 * slots / 4;
+    for (uint64_t k = 0; k < generation[1]; k++)
+        generation[4 + k] = slots * (k + 1);
+}
+
+/* Opens words with these settings, and makes calls at random; of 256 slots those of one generation are crowded at every call. */
 static void session(uint64_t registers, uint64_t places, uint64_t pairs, uint64_t behind, uint64_t ahead, uint64_t bucket,
                     uint64_t slots, int turns) {
     memset(settings, 0, sizeof settings);
@@ -187,6 +198,8 @@ static void session(uint64_t registers, uint64_t places, uint64_t pairs, uint64_
             which = DUMP;
         if (which == SET_LIMITS)
             limits_at(below(2000));
+        if (slots == 256)
+            crowd(places, pairs, slots);
         size_t spoilt = below(50) ? needed : below(needed);
         uint64_t kept = spoilt < needed ? words[spoilt] : 0;
         if (spoilt < needed)
@@ -209,6 +222,7 @@ int main(void) {
     session(1, 1, 2, 10, 10, 10, 2, 20000);
     session(1, 4, 8, 20000, 2000, 1000, 8, 20000);
     session(4, 8, 16, 20000, 2000, 1000, 64, 4000);
+    session(1, 4, 8, 20000, 2000, 1000, 256, 4000);
     session(4, 64, 512, 3600000, 3600000, 28347, 1024, 200);
     printf("%-24s %10s %10s %10s\n", "entry point", "bytes", "through", "refused");
     for (int i = 0; i < ENTRIES; i++)

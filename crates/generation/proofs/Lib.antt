@@ -2,6 +2,8 @@ pub mod Masking
 pub mod Doubling
 pub mod Putting
 pub mod Reaching
+pub mod Crowding
+pub mod Alone
 pub mod Looking
 pub mod Dropping
 pub mod Inserting

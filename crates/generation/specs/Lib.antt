@@ -1,3 +1,4 @@
 pub mod Slots
 pub mod Rules
 pub mod Words
+pub mod Reach

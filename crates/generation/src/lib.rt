@@ -15,6 +15,7 @@ ghost use Rattle.model.specs.Generation.{among, insert, dropped};
 ghost use Rattle.generation.specs.Rules.{holds-in, room-in, with-slots-for, entered, drop-says, dropped-in, drop-in-says, swept-at, sweep-says};
 ghost use Rattle.generation.specs.Words.{Bounded, Roomy, Leads, led-by, opened, silent, GenerationReads, GenerationTurns, FittingTurns};
 
+mod crowded;
 mod slots;
 mod sound;
 

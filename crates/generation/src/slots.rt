@@ -6,10 +6,20 @@ ghost use mathlib.Core.Path.{_≡_};
 ghost use mathlib.Core.List.{_++_};
 ghost use Prim.Native.Nat.{_+_, _-_, _*_, _%_, _≤_, _<_};
 ghost use lib.ListN.{length, take, drop, replicate};
+ghost use lib.Bits.{bitAnd};
 ghost use Rattle.model.specs.Generation.{next, probe, refill, grown};
 ghost use Rattle.generation.specs.Slots.{slots-after, put-again, Puts};
 
-// The slot that probing starts at: the remainder. Slots are a power of two, for which it is a mask and no division.
+// The slot that probing starts at, the remainder, where slots are a power of two: a mask and no division.
+pub fn masked_slot(fp: u64, n: usize) -> usize
+    requires { ⌜ (0 < n) × (bitAnd n (n - 1) ≡ 0) ⌝ }
+    ensures { λ r. ⌜ r ≡ fp % n ⌝ }
+{
+    let last = n as u64 - 1;
+    (fp & last) as usize
+}
+
+// The same for any number of slots.
 pub fn first_slot(fp: u64, n: usize) -> usize
     requires { ⌜ 0 < n ⌝ }
     ensures { λ r. ⌜ r ≡ fp % n ⌝ }
@@ -17,7 +27,7 @@ pub fn first_slot(fp: u64, n: usize) -> usize
     let slots = n as u64;
     let last = slots - 1;
     if slots & last == 0 {
-        return (fp & last) as usize;
+        return masked_slot(fp, n);
     }
     (fp % slots) as usize
 }

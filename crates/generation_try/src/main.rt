@@ -1,6 +1,6 @@
 // A generation of at most 8 slots at position 0 of a ring of 24: fingerprints are inserted, words printed after each, one is
 // dropped, and damaged words are refused. What is printed is the worked case of holding 1, 2, 3, 4, 6 and a seventh, with
-// fingerprints that start at the same slot.
+// fingerprints that start at the same slot. Then 128 slots of which 95 are held, by fingerprints that all start at one slot.
 use generation::Dropped;
 use model::Bucket;
 use model::Room;
@@ -61,6 +61,57 @@ fn sweep(part: &mut [u64], through: Bucket) -> u64 {
     }
 }
 
+// 128 slots of bucket 120. The 95 from `first` on, round the end, are held, and probing for each fingerprint starts at `first`.
+fn crowd(first: usize) -> [u64; 132]
+    requires { ⌜ first < 128 ⌝ }
+{
+    let mut part = [0u64; 132];
+    part[0] = 128;
+    part[2] = 100;
+    part[3] = 120;
+    let mut k = 0;
+    while k < 95 {
+        let at = (first + k) % 128 + 4;
+        part[at] = ((k + 1) * 128 + first) as u64;
+        k += 1;
+    }
+    part
+}
+
+// 1 where they are sound, and else 0.
+fn sound(part: &[u64; 132]) -> u64 {
+    if generation::is_sound(part, 24, 0) {
+        return 1;
+    }
+    0
+}
+
+// Prints whether they are sound with one word changed and so many said to be held.
+fn show_crowd(first: usize, at: usize, word: u64, held: u64)
+    requires { ⌜ (first < 128) × (at < 132) ⌝ }
+{
+    let mut part = crowd(first);
+    part[at] = word;
+    part[1] = held;
+    let says = sound(&part);
+    print(says, b' ');
+}
+
+// Those from `first` on, of which `next` is the word of the slot behind the last, with a new fingerprint there, with one that is
+// held already, with the new one past an empty slot, with an empty slot among them, and with one too few said to be held.
+fn show_crowds(first: usize, next: usize, new: u64, known: u64)
+    requires { ⌜ (first < 128) × (next < 100) ⌝ }
+{
+    show_crowd(first, next, 0, 95);
+    show_crowd(first, next, new, 96);
+    show_crowd(first, next, known, 96);
+    show_crowd(first, next + 1, new, 96);
+    show_crowd(first, 55, 0, 94);
+    show_crowd(first, next, 0, 94);
+    let line = [b'\n'];
+    io::write_all(1, &line);
+}
+
 fn main() {
     let mut part = [0u64; 12];
     let mut says = strike(&mut part, Bucket(120), 8, 100);
@@ -88,4 +139,6 @@ fn main() {
     part[9] = 5;
     says = strike(&mut part, Bucket(120), 5, 1);
     show(says, &part);
+    show_crowds(0, 99, 131072, 128);
+    show_crowds(100, 71, 131172, 228);
 }

@@ -25,7 +25,7 @@ use guard::Against;
 use input::{Entry, Input};
 use lent::Lent;
 use scene::Scene;
-use soundness::Due;
+use soundness::{Broken, Due};
 
 /// The inputs of one scene, and the most words that a scene may need.
 const INPUTS: u64 = 400;
@@ -56,6 +56,8 @@ struct Counts {
     /// By what was done to the words: those that are sound, and those that are not.
     altered: BTreeMap<Altered, (u64, u64)>,
     rules: BTreeMap<String, u64>,
+    /// Words with slots that are too far on for probing to be followed: sound, and not reached.
+    crowded: (u64, u64),
 }
 
 fn run(seed: u64, first: u64, last: u64) -> ExitCode {
@@ -80,7 +82,10 @@ fn run(seed: u64, first: u64, last: u64) -> ExitCode {
             Against::Front
         };
         match judge::judge(&mut lent, &input, against) {
-            Ok(due) => counts.count(&input, due),
+            Ok(due) => {
+                counts.count(&input, due);
+                counts.count_crowded(scene, due);
+            }
             Err(why) => {
                 eprintln!("hostile: seed {seed}, input {at}: {:?}: {why}", input.entry);
                 report::print(&report::cut(&mut lent, &input, against));
@@ -121,6 +126,13 @@ impl Counts {
         }
     }
 
+    fn count_crowded(&mut self, scene: &Scene, due: Due) {
+        if scene.crowded {
+            self.crowded.0 += u64::from(due == Due::No);
+            self.crowded.1 += u64::from(due == Due::Unsound(Broken::Reached));
+        }
+    }
+
     fn print(&self, seed: u64, inputs: u64) {
         let list = |parts: Vec<String>| parts.join(", ");
         let refused = self
@@ -147,6 +159,10 @@ impl Counts {
             .map(|(rule, times)| format!("{rule} {times}"))
             .collect();
         eprintln!("the rule broken first: {}", list(rules));
+        eprintln!(
+            "crowded slots: {} went through and {} are not reached",
+            self.crowded.0, self.crowded.1
+        );
         println!(
             "hostile: seed {seed}: {inputs} inputs, every answer as due, no memory touched that was not lent"
         );

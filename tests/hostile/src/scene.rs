@@ -52,13 +52,16 @@ pub struct Scene {
     pub layout: Layout,
     /// About where its clock is.
     pub reading: u64,
+    /// Whether generations hold fingerprints for which probing starts at one slot, some of them too far on to be followed.
+    pub crowded: bool,
 }
 
 impl Scene {
     pub fn new(random: &mut Random) -> Self {
-        match random.percent(60) {
-            true => Self::called(random),
-            false => Self::made(random),
+        match random.below(20) {
+            0..12 => Self::called(random),
+            12 => Self::made(crowded_settings(random), true, random),
+            _ => Self::made(small_settings(random), false, random),
         }
     }
 
@@ -98,12 +101,12 @@ impl Scene {
             words,
             layout,
             reading,
+            crowded: false,
         }
     }
 
     /// Words made up from the table of words, free ones with any content.
-    fn made(random: &mut Random) -> Self {
-        let settings = small_settings(random);
+    fn made(settings: Settings, crowded: bool, random: &mut Random) -> Self {
         let layout = Layout::of(&settings);
         let reading = if random.percent(20) {
             random.word()
@@ -115,6 +118,7 @@ impl Scene {
             settings,
             layout,
             reading,
+            crowded,
         };
         scene.make_front(random);
         for class in 0..3 {
@@ -271,9 +275,13 @@ impl Scene {
             random.between(1, 3 * slots / 4)
         };
         let table = at + 4..at + 4 + slots as usize;
+        let first = random.below(slots);
         let mut inserted = 0;
         while inserted < held {
-            let fingerprint = fingerprint(random);
+            let fingerprint = match self.crowded {
+                true => first + slots * random.between(1, 4_000),
+                false => fingerprint(random),
+            };
             inserted += u64::from(insert(&mut self.words[table.clone()], fingerprint));
         }
         let newest = random.pick(&[0, 1, u64::MAX, self.reading]);
@@ -322,9 +330,23 @@ fn insert(table: &mut [u64], fingerprint: u64) -> bool {
 fn small_settings(random: &mut Random) -> Settings {
     let registers = random.pick(&[1, 1, 1, 2, 3, 4]);
     let windows = (0..registers).map(|_| small_windows(random)).collect();
+    settings_of(windows, random)
+}
+
+/// One register of few generations with many slots.
+fn crowded_settings(random: &mut Random) -> Settings {
+    let windows = Windows {
+        slots: random.pick(&[256, 512]),
+        bucket: 60_000,
+        ..Windows::default()
+    };
+    settings_of(vec![windows], random)
+}
+
+fn settings_of(windows: Vec<Windows>, random: &mut Random) -> Settings {
     let limit = |random: &mut Random| random.pick(&[0, 1, 5, 40, 1_000, 1_000_000]);
     Settings {
-        registers,
+        registers: windows.len() as u64,
         places: random.pick(&[1, 2, 3, 5]),
         pairs: random.pick(&[2, 3, 4, 9]),
         feeder_units: random.pick(&[0, 1, 3, 4_096]),

@@ -1,0 +1,4 @@
+pub mod Counting
+pub mod Sorting
+pub mod Merging
+pub mod Telling
