@@ -4,9 +4,10 @@
     tests/edits.py [CRATE ...]
 
 The proofs' gate counts an edit as refused whatever the reason. An edit whose refusal only says that a proof no longer fits the code,
-as it has a need too few or too many, or that the code does not compile, shows nothing of the contract. Here each edit's first error
-that is neither, and no mere consequence of another, is printed: it names the function and the need that fails. Run after `rt check`,
-whose results the copies start from. Status 0 only if every edit's text stands in its file exactly once and fails at a fact.
+as it has a need too few or too many, or that the code does not compile, shows nothing of the contract. Here the errors of each edit
+that are neither, and no mere consequence of others, are told: the proof and the facts that fail in it, and what is said of the first.
+Run after `rt check`, whose results the copies start from. Status 0 only if every edit's text stands in its file exactly once and
+fails at a fact.
 """
 
 import os
@@ -25,29 +26,55 @@ ROOT = Path(__file__).resolve().parent.parent
 NO_FACT = re.compile(r"has no `Need-|not in scope|has no field|has no `[^`]*` that can be named|error\[|was not admitted")
 
 
+# What is said of a function that has no proof by hand: a fact.
+UNPROVED = "it is not proved that"
+
+
+def as_error(line):
+    """A line of the check, in the form of an error."""
+    return re.sub(rf"^note: (\S*): ({UNPROVED}.*) \((`[^`]*`)\)", r"\1: error: \3: \2", line)
+
+
 def read(edit):
-    """What an edit says: its file, the text there, and what stands in its place."""
-    lines = dict(line.split(": ", 1) for line in edit.read_text().splitlines())
-    return lines["file"], lines["old"], lines["new"]
+    """What an edit says: files, the text in each, and what stands in its place. A file holds for all texts after it."""
+    file, old, pairs = None, None, []
+    for line in edit.read_text().splitlines():
+        word, text = line.split(":", 1)
+        text = text.removeprefix(" ")
+        match word:
+            case "file":
+                file = text
+            case "old":
+                old = text
+            case "new":
+                pairs.append((file, old, text))
+    return pairs
 
 
 def errors_of(edit, copy):
     """The errors of a check with the edit made in a copy, which is then as it was."""
-    file, old, new = read(edit)
-    crate = edit.parent.parent.name
-    path = copy / "crates" / crate / file
-    text = path.read_text()
-    if text.count(old) != 1:
-        return [f"error: its text stands in {file} {text.count(old)} times, not once: not in scope"]
-    path.write_text(text.replace(old, new))
-    said = subprocess.run(["rt", "dev", crate], cwd=copy, capture_output=True, text=True)
-    path.write_text(text)
-    return [line for line in (said.stdout + said.stderr).splitlines() if "error" in line]
+    crate = copy / "crates" / edit.parent.parent.name
+    before = {file: (crate / file).read_text() for file, _, _ in read(edit)}
+    after = dict(before)
+    for file, old, new in read(edit):
+        if after[file].count(old) != 1:
+            return [f"error: its text stands in {file} {after[file].count(old)} times, not once: not in scope"]
+        after[file] = after[file].replace(old, new)
+    for file, text in after.items():
+        (crate / file).write_text(text)
+    said = subprocess.run(["rt", "dev", crate.name], cwd=copy, capture_output=True, text=True)
+    for file, text in before.items():
+        (crate / file).write_text(text)
+    return [as_error(line) for line in (said.stdout + said.stderr).splitlines() if "error" in line or UNPROVED in line]
 
 
-def told(error):
-    """An error without the folder that it was found in."""
-    return re.sub(r"^\S*/crates/", "", error)[:180]
+def told(errors):
+    """Where the first error was found, the facts that fail there, and what it says, cut off."""
+    found = [re.match(r"(?:\S*/crates/)?([^:]*)[\d:]*:? ?error: (`[^`]*`)?:? ?(.*)", error) for error in errors]
+    found = [match.groups() for match in found if match] or [("", None, (errors or ["no error"])[0])]
+    place, _, why = found[0]
+    facts = dict.fromkeys(fact for at, fact, _ in found if at == place and fact)
+    return f"{place}: {', '.join(facts)}: {why[:90]}"
 
 
 def main():
@@ -76,7 +103,7 @@ def main():
                 facts = [error for error in errors if not NO_FACT.search(error)]
                 name = f"{edit.parent.parent.name}/{edit.stem}"
                 bad += not facts
-                print(f"{name}: {told(facts[0])}" if facts else f"{name} SHOWS NOTHING: {told((errors or ['no error'])[0])}", flush=True)
+                print(f"{name}: {told(facts)}" if facts else f"{name} SHOWS NOTHING: {told(errors)}", flush=True)
     print(f"{len(edits)} edits, {bad} that show nothing")
     sys.exit(bad != 0)
 
