@@ -7,7 +7,8 @@ The proofs' gate counts an edit as refused whatever the reason. An edit whose re
 as it has a need too few or too many, or that the code does not compile, shows nothing of the contract. Here the errors of each edit
 that are neither, and no mere consequence of others, are told: the proof and the facts that fail in it, and what is said of the first.
 Run after `rt check`, whose results the copies start from. Status 0 only if every edit's text stands in its file exactly once and
-fails at a fact.
+each has such an error. Whether it is the fact that the edit is to break is for a reader to see: a right program in another shape
+can fail so too.
 """
 
 import os
@@ -24,7 +25,6 @@ ROOT = Path(__file__).resolve().parent.parent
 
 # A refusal of the code's shape or of the proof's, and one that follows from another.
 NO_FACT = re.compile(r"has no `Need-|not in scope|has no field|has no `[^`]*` that can be named|error\[|was not admitted")
-
 
 # What is said of a function that has no proof by hand: a fact.
 UNPROVED = "it is not proved that"
