@@ -1,5 +1,5 @@
 #!/usr/bin/env python3
-"""Prints calls that fill each of the largest settings exactly and go one past it.
+"""Prints calls that fill each of the largest settings exactly and go one past it, and that crowd slots from one of them.
 
 tests/lists/record puts the Rust's answers to them.
 """
@@ -11,20 +11,23 @@ def opening(places, pairs, windows, units="0 0", limits=LIMITS):
     print(f"open 1 {places} {pairs} {units} {limits}  {windows} empty")
 
 
+def one_generation(fingerprints):
+    """Takes into the first generation of 1,024 slots."""
+    opening(1, 2, "0 0 0 0 1000 1024")
+    for fingerprint in fingerprints:
+        print(f"take 0 {fingerprint} 5000 5000 1 f:1")
+
+
 def slots():
     print("\n# S of 1,024: a generation holds 768 fingerprints and no more.")
-    opening(1, 2, "0 0 0 0 1000 1024")
-    for fingerprint in range(1, 770):
-        # Multiples crowd together, so that probing goes far and round the end.
-        print(f"take 0 {fingerprint * 341} 5000 5000 1 f:1")
+    # Multiples crowd together, so that probing goes far and round the end.
+    one_generation(341 * number for number in range(1, 770))
     print("held f:1\ncontains_hash 0 261888\ncontains_hash 0 262229")
 
 
 def crowd():
     print("\n# S of 1,024 with fingerprints for which probing starts at one slot: the last ones lie far on, and round the end.")
-    opening(1, 2, "0 0 0 0 1000 1024")
-    for number in range(1, 201):
-        print(f"take 0 {1024 * number + 1000} 5000 5000 1 f:1")
+    one_generation(1024 * number + 1000 for number in range(1, 201))
     print("judge 0 205800 5000 5000 1 f:1\ntake 0 2024 5000 5000 1 f:1\njudge 0 206824 5000 5000 1 f:1")
     print("contains_hash 0 205800\ncontains_hash 0 206824\ndump 0")
 
