@@ -13,8 +13,8 @@ run: build/strikes
 test:
 	@bash .ci/run
 
-# The register as an archive for C and Rust, proved first; where it is there already it is taken as it is.
-build/libstrikes.a:
+# The register as an archive for C and Rust, proved first. It is made anew where any file that it is made and proved from is newer.
+build/libstrikes.a: $(shell hosts/archive sources)
 	@hosts/archive
 
 # The host programs: the register as a program (demo, replay, view, soak), and a small gateway in C.
