@@ -1,5 +1,5 @@
--- A take under the conditions is granted its share and answers as it is due: one take on one state. Then every call keeps the bounds
--- from which that follows.
+-- A take under the conditions is granted its share and answers as it is due: one take on one state. Then a call on one
+-- register keeps the bounds from which that follows.
 use mathlib.Core.Path.{_≡_}
 use mathlib.Core.Bool.{true, cond}
 use mathlib.Core.List.{[], _∷_}
@@ -14,18 +14,18 @@ use Rattle.model.specs.declared.Settings.{Settings}
 use Rattle.model.specs.declared.Shares.{Shares}
 use Rattle.model.specs.declared.Usable.{Usable}
 use Rattle.runs.proofs.Cases.{by-test, each-true, no}
-use Rattle.model.specs.Settings.{usable-at, limits-of}
+use Rattle.model.specs.Settings.{usable-at}
 use Rattle.model.specs.Class.{class-of}
 use Rattle.model.specs.Generation.{among, as-read, slots-for}
 use Rattle.model.specs.Book.{Book, places-of, second-of, draw-says}
 use Rattle.model.specs.Register.{Register, sweep}
 use Rattle.model.specs.Judge.{Ask, bucket-of, unjudged, judge, ahead-for, judge-batch, collides, make-room, take-room, take-share, take-judged, take, take-batch}
-use Rattle.model.specs.Dump.{Dump, read-dump}
+use Rattle.model.specs.Dump.{Dump}
 use Rattle.model.specs.Words.{State}
-use Rattle.model.specs.Calls.{Manner, judged, judged-batch, taken, taken-batch, Deed, Ticket, ContainsHash, Begin, Sweep, DumpTo, Restore, Resume, Floor, Pending, SweptBucket, Call, Open, On, Expire, SetLimits, Close, HeldBy, ClassTotals, ask-of, register-at, opened, asked, after-judged, after-taken, after-restored, restored, resumed, proven-of, done-on, least-published, step}
-use Rattle.model.specs.EqualPart.{same-limits, limits-stay, met, taken-by-another, Due}
+use Rattle.model.specs.Calls.{Manner, judged, judged-batch, taken, taken-batch, register-at, asked, after-judged, after-taken, after-restored, restored, resumed}
+use Rattle.model.specs.EqualPart.{same-limits, met, taken-by-another, Due}
 use Rattle.model.proofs.Sharing.{grants}
-use Rattle.model.proofs.SharesKept.{Bounded, opened-bounded, expire-bounded, closed-bounded, limits-bounded, take-bounded, take-batch-bounded, restore-bounded, resume-bounded}
+use Rattle.model.proofs.SharesKept.{Bounded, take-bounded, take-batch-bounded, restore-bounded, resume-bounded}
 
 -- ---- judged New: then the register was swept, and nothing else was done to it
 pub new-swept : (u : Usable) (reg : Register) (a : Ask) → judge u reg a .says ≡ New → judge u reg a .register ≡ sweep u (a .ms) reg
@@ -61,7 +61,7 @@ module _ (u : Usable) (b : Shares) (reg : Register) (k : Book) (a : Ask) (d : Du
     unfolding take-batch take-judged judge-batch ahead-for
     take-batch-due = rw (new, new-swept u reg a new) share-due
 
--- ---- every call keeps the bounds while the limits stay
+-- ---- a call keeps the bounds while the limits stay
 pub limits-same : (l m : Limits) → same-limits l m ≡ true → l ≡ m
 unfolding same-limits
 limits-same l m t =
@@ -74,46 +74,22 @@ limits-same l m t =
     λ i. record { feeder = e0 i; feeders = e1 i; peer = e2 i; peers = e3 i; relay = e4 i }
 
 module _ (s : Settings) where
-  abbrev BoundedState : State → Type 0
+  abbrev pub BoundedState : State → Type 0
   BoundedState t = Bounded (s .shares) (t .book)
 
-  asked-bounded : (r : ℕ) (m : Manner) (a : Ask) (t : State) → BoundedState t → BoundedState (asked s r m a t .state)
+  pub asked-bounded : (r : ℕ) (m : Manner) (a : Ask) (t : State) → BoundedState t → BoundedState (asked s r m a t .state)
   unfolding asked after-judged after-taken
   asked-bounded r judged a t h = h
   asked-bounded r judged-batch a t h = h
   asked-bounded r taken a t h = take-bounded (s .shares) (usable-at s r) (register-at r t) (t .book) a h
   asked-bounded r taken-batch a t h = take-batch-bounded (s .shares) (usable-at s r) (register-at r t) (t .book) a h
 
-  restored-bounded : (r : ℕ) (t : State) (d : Option Dump) → BoundedState t → BoundedState (restored s r t d .state)
+  pub restored-bounded : (r : ℕ) (t : State) (d : Option Dump) → BoundedState t → BoundedState (restored s r t d .state)
   unfolding restored after-restored
   restored-bounded r t none h = h
   restored-bounded r t (some d) h = restore-bounded (s .shares) (usable-at s r) d (register-at r t) (t .book) h
 
-  resumed-bounded : (r : ℕ) (t : State) (p : Option ℕ) (d : Option Dump) → BoundedState t → BoundedState (resumed s r t p d .state)
+  pub resumed-bounded : (r : ℕ) (t : State) (p : Option ℕ) (d : Option Dump) → BoundedState t → BoundedState (resumed s r t p d .state)
   unfolding resumed after-restored
   resumed-bounded r t p none h = h
   resumed-bounded r t p (some d) h = resume-bounded (s .shares) (usable-at s r) d p (register-at r t) (t .book) h
-
-  deed-bounded : (r : ℕ) (d : Deed) (t : State) → BoundedState t → BoundedState (done-on s r d t .state)
-  unfolding done-on
-  deed-bounded r (Ticket m a) t h = asked-bounded r m (ask-of a) t h
-  deed-bounded r (ContainsHash fp) t h = h
-  deed-bounded r (Begin number) t h = h
-  deed-bounded r (Sweep ms) t h = h
-  deed-bounded r (DumpTo out) t h = h
-  deed-bounded r (Restore bytes) t h = restored-bounded r t (read-dump bytes) h
-  deed-bounded r (Resume bytes flag floor) t h = resumed-bounded r t (proven-of flag floor) (read-dump bytes) h
-  deed-bounded r Floor t h = h
-  deed-bounded r Pending t h = h
-  deed-bounded r SweptBucket t h = h
-
-  pub step-bounded : (call : Call) (t : State) → limits-stay call (t .book .limits) ≡ true → BoundedState t → BoundedState (step s call t .state)
-  unfolding step limits-stay opened
-  step-bounded (Open limits starts) t e h = opened-bounded (s .shares) (limits-of limits)
-  step-bounded (On r d) t e h = deed-bounded r d t h
-  step-bounded (Expire ms) t e h = expire-bounded (s .shares) (least-published s 0 (t .registers) ms) (t .book) h
-  step-bounded (SetLimits limits) t e h =
-      limits-bounded (s .shares) (limits-of limits) (t .book) (limits-same (limits-of limits) (t .book .limits) e) h
-  step-bounded Close t e h = closed-bounded (s .shares) (t .book) h
-  step-bounded (HeldBy kind number) t e h = h
-  step-bounded (ClassTotals c) t e h = h

@@ -17,18 +17,19 @@ use Rattle.model.specs.Settings.{settings-of, limits-of, usable-at, sett
 use Rattle.model.specs.Book.{Place, together, places-of}
 use Rattle.model.specs.Words.{State}
 use Rattle.model.specs.Judge.{judge, take, take-batch}
-use Rattle.model.specs.Calls.{Asking, Manner, judged, taken, taken-batch, Ticket, Call, Open, On, Expire, SetLimits, Close, HeldBy, ClassTotals, ask-of, register-at, opened, after-judged, after-taken, asked, done-on, step, codes-fit, deed-fits, unfit, is-open, sound, unsound, no-such-register, late-deed, late, held-in, refused, reply, after}
+use Rattle.model.specs.Calls.{Asking, Manner, judged, taken, taken-batch, Ticket, Call, Open, On, Kind, Opens, OnOne, Sets, Other, opens, kind, ask-of, register-at, opened, after-judged, after-taken, asked, done-on, step, codes-fit, deed-fits, unfit, is-open, sound, unsound, no-such-register, late-deed, late, held-in, refused, reply, after}
 use Rattle.model.specs.View.{Given, answered, left-by, words-after}
 use Rattle.model.specs.Codes.{went-through}
 use Rattle.model.specs.Soundness.{Vetted}
-use Rattle.model.specs.EqualPart.{Since, limits-stay, and-then, gone-through, heard, since-opening, answer-due, Promised, EqualPart, WordsHold, OpeningHolds, cost, HoldersKept, SharesKept}
+use Rattle.model.specs.EqualPart.{Since, limits-stay, and-then, gone-by, gone-through, heard, since-opening, answer-due, Promised, EqualPart, WordsHold, OpeningHolds, cost, HoldersKept, SharesKept}
 use Rattle.model.proofs.Refusals.{step-through}
 use Rattle.model.proofs.View.{Trimmed, brought-trimmed, kept-are, view-sound}
-use Rattle.model.proofs.Simulates.{refused-words, entered, fit-settings, reply-is, through-is, through-zero, simulates}
+use Rattle.model.proofs.Simulates.{refused-words, entered, fit-settings, reply-is, through-zero, simulates}
 use Rattle.model.proofs.Units.{Shared, one-of, two-of}
 use Rattle.model.proofs.Sharing.{each-units}
 use Rattle.model.proofs.SharesKept.{Bounded, opened-bounded}
-use Rattle.model.proofs.EqualPart.{take-due, take-batch-due, step-bounded}
+use Rattle.model.proofs.EqualPart.{take-due, take-batch-due}
+use Rattle.model.proofs.EveryCall.{lawful}
 
 -- ---- what is kept
 pub record Tied (x : Since) (ws : List ℕ) : Type 0 where
@@ -67,7 +68,7 @@ refused-stays st ws call h =
     let t = held-in s ws in
     by-test (eqb (refused st ws call) 0)
     (λ e.
-    let through = ap went-through (reply-is st ws call (eqb-true (refused st ws call) 0 e)) ∙ through-is (step s call t .answer) (step-through s call t) in
+    let through = ap went-through (reply-is st ws call (eqb-true (refused st ws call) 0 e)) ∙ step-through s call t in
     let z : false ≡ true = sym h ∙ through in no (cc))
     (λ e. refused-words st ws call e)
 
@@ -102,18 +103,18 @@ module _ (st ws : List ℕ) (r : ℕ) (a : Asking) (passed : eqb (refused st ws 
   take-batch-says = rw (as-refused taken-batch st ws r a, passed)
 
 -- ---- an opening ties the words to what it opens
-pub opening-ties : (ws st limits starts : List ℕ) → went-through (reply st ws (Open limits starts)) ≡ true
-    → Tied (record { settings = settings-of st; state = opened (settings-of st) limits starts; unchanged = true }) (after st ws (Open limits starts))
-unfolding step opened
-opening-ties ws st limits starts through =
-    let m = simulates ws (record { settings = st; call = Open limits starts }) through in
+pub opening-ties : (ws st : List ℕ) (call : Call) (limits starts : List ℕ) → kind call ≡ Opens limits starts → went-through (reply st ws call) ≡ true
+    → Tied (record { settings = settings-of st; state = opened (settings-of st) limits starts; unchanged = true }) (after st ws call)
+unfolding step kind opened
+opening-ties ws st call limits starts is through =
+    let m = simulates ws (record { settings = st; call = call }) through in
     let fit = fit-settings st (m .vetted .fit) in
     record {
       fit = fit;
       trimmed = brought-trimmed st fit;
       long = m .vetted .long;
       sound = m .vetted .sound;
-      holds = m .holds;
+      holds = m .holds ∙ lawful call .afresh limits starts is (settings-of st) (held-in (settings-of st) ws);
       bounded = λ e. opened-bounded (settings-of st .shares) (limits-of limits);
     }
 
@@ -125,6 +126,7 @@ opening-holds st ws limits starts through = simulates ws (record { settings = st
 -- ---- any later call that went through leaves them tied
 pub later-ties : (x : Since) (ws : List ℕ) (g : Given) → is-open (g .call) ≡ false → went-through (answered ws g) ≡ true → Tied x ws
     → TiedIf (and-then (g .call) (some x)) (left-by ws g)
+unfolding step limits-stay
 later-ties x ws g shut through t =
     let m = simulates ws g through in
     let e : settings-of (g .settings) ≡ x .settings = same-settings x ws t (g .settings) (vetted-before (g .settings) ws (g .call) shut through) in
@@ -136,7 +138,7 @@ later-ties x ws g shut through t =
       sound = rw e at (m .vetted .sound);
       holds = holds ∙ ap (λ (y : State). step (x .settings) (g .call) y .state) (t .holds);
       bounded = λ p. let q = both-true (x .unchanged) (limits-stay (g .call) (x .state .book .limits)) p in
-          step-bounded (x .settings) (g .call) (x .state) (q .1) (t .bounded (q .0));
+          lawful (g .call) .bounded (x .settings) (x .state) (q .1) (t .bounded (q .0));
     }
 
 then-ties : (k : Option Since) (ws : List ℕ) (g : Given) → is-open (g .call) ≡ false → went-through (answered ws g) ≡ true → TiedIf k ws
@@ -147,13 +149,13 @@ then-ties (some x) ws g shut through t = later-ties x ws g shut through t
 through-ties : (k : Option Since) (ws st : List ℕ) (call : Call) → went-through (reply st ws call) ≡ true → TiedIf k ws
     → TiedIf (gone-through (settings-of st) call k) (after st ws call)
 unfolding gone-through is-open
-through-ties k ws st (Open limits starts) h t = opening-ties ws st limits starts h
-through-ties k ws st (On r d) h t = then-ties k ws (record { settings = st; call = On r d }) refl h t
-through-ties k ws st (Expire ms) h t = then-ties k ws (record { settings = st; call = Expire ms }) refl h t
-through-ties k ws st (SetLimits limits) h t = then-ties k ws (record { settings = st; call = SetLimits limits }) refl h t
-through-ties k ws st Close h t = then-ties k ws (record { settings = st; call = Close }) refl h t
-through-ties k ws st (HeldBy kind number) h t = then-ties k ws (record { settings = st; call = HeldBy kind number }) refl h t
-through-ties k ws st (ClassTotals c) h t = then-ties k ws (record { settings = st; call = ClassTotals c }) refl h t
+through-ties k ws st call h t = by-kind (kind call) refl
+  where
+    by-kind : (q : Kind) → kind call ≡ q → TiedIf (gone-by (settings-of st) q call k) (after st ws call)
+    by-kind (Opens limits starts) e = opening-ties ws st call limits starts e h
+    by-kind (OnOne r d) e = then-ties k ws (record { settings = st; call = call }) (ap opens e) h t
+    by-kind (Sets limits) e = then-ties k ws (record { settings = st; call = call }) (ap opens e) h t
+    by-kind Other e = then-ties k ws (record { settings = st; call = call }) (ap opens e) h t
 
 -- a refused call leaves all as it was
 call-ties : (k : Option Since) (ws : List ℕ) (g : Given) → TiedIf k ws → TiedIf (heard g (answered ws g) k) (left-by ws g)

@@ -7,6 +7,7 @@ pub mod Words
 pub mod View
 pub mod Pairs
 pub mod Places
+pub mod Lawful
 pub mod Refusals
 pub mod Worked
 pub mod Misreadings
@@ -20,6 +21,7 @@ pub mod Judging
 pub mod RestoreKept
 pub mod RestoreStruck
 pub mod SoundnessKept
+pub mod EveryCall
 pub mod Simulates
 pub mod Guarded
 pub mod Once

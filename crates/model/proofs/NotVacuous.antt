@@ -25,10 +25,10 @@ use Rattle.model.specs.Judge.{compute-judge}
 use Rattle.model.specs.Dump.{word-bytes, compute-dump}
 use Rattle.model.specs.Words.{front-sound, state-form}
 use Rattle.model.specs.Codes.{compute-codes, went-through}
-use Rattle.model.specs.Calls.{Manner, judged, taken, Ticket, Sweep, Restore, Resume, Call, Open, On, Close, opened, compute-calls}
+use Rattle.model.specs.Calls.{Manner, judged, taken, Ticket, Sweep, Restore, Resume, Call, Open, On, Close, opened, kind, compute-calls}
 use Rattle.model.specs.View.{Given, answered, left-by, words-after}
 use Rattle.model.specs.Soundness.{Admitted, Vetted}
-use Rattle.model.specs.Once.{kind, takes, asks-about, remade-among, Answered, moments, Calls, Replaces, Aside, LeavesAlone, AllAside, compute-once}
+use Rattle.model.specs.Once.{takes, asks-about, remade-among, Answered, moments, Calls, Replaces, Aside, LeavesAlone, AllAside, compute-once}
 use Rattle.model.specs.TwiceLimit.{class-units, class-limit}
 use Rattle.model.proofs.SoundnessKept.{opened-sound}
 use Rattle.model.proofs.Once.{leaves-alone}

@@ -15,25 +15,46 @@ use Rattle.runs.proofs.Cases.{by-test, no}
 use Rattle.model.specs.Settings.{settings-of, usable-at, words-needed}
 use Rattle.model.specs.Register.{Register}
 use Rattle.model.specs.Judge.{bucket-of}
-use Rattle.model.specs.Words.{State}
-use Rattle.model.specs.Calls.{Call, Open, On, Expire, SetLimits, Close, HeldBy, ClassTotals, is-open, sound, register-at, step, held-in, refused, reply, after}
+use Rattle.model.specs.Words.{State, state-form}
+use Rattle.model.specs.Calls.{Call, Sort, Asks, Takes, Restores, Resumes, Plain, Kind, Opens, OnOne, Sets, Other, opens, kind, is-open, no-such-register, settings-words-fit, sound, register-at, step, held-in, refused, reply, after}
 use Rattle.model.specs.View.{Given, answered, left-by, words-after}
 use Rattle.model.specs.Codes.{went-through}
 use Rattle.model.specs.Soundness.{Vetted}
-use Rattle.model.specs.Once.{Strike, Kind, kind, asks-about, takes, remakes, remade-by, remade-among, NoTicketTwice, Moment, Answered, Accepted, CalledNew, remade, unless, Never, Once, moments, Event, Calls, Replaces, Aside, LeavesAlone, left-by-event, event-moments, all-moments, AllAside, NoTicketTwiceAmong}
+use Rattle.model.specs.Once.{Strike, sort-asks, asks-about, sort-takes, takes, remakes, remade-by, remade-among, NoTicketTwice, Moment, Answered, Accepted, CalledNew, remade, unless, Never, Once, moments, Event, Calls, Replaces, Aside, LeavesAlone, left-by-event, event-moments, all-moments, AllAside, NoTicketTwiceAmong}
 use Rattle.model.proofs.Choice.{or-false, true-false}
 use Rattle.model.proofs.Struck.{Struck}
 use Rattle.model.proofs.Simulates.{refused-words, entered, fit-settings, vetted-ok, one-settings, reply-is, after-vetted, after-holds}
-use Rattle.model.proofs.Guarded.{StruckIn, good, strikes, none-some}
+use Rattle.model.proofs.Refusals.{step-through}
+use Rattle.model.proofs.Lawful.{StruckIn, none-some}
+use Rattle.model.proofs.EveryCall.{lawful}
 
 -- ---- the guard: under whatever settings the words are vetted, the state that they hold has struck the ticket
 pub record Guarded (t : Strike) (ws : List ℕ) : Type 0 where
   pub struck : (st : List ℕ) → Vetted st ws → StruckIn (settings-of st) t (held-in (settings-of st) ws)
 
+record GoodCall (s : Settings) (t : Strike) (call : Call) (x : State) : Type 0 where
+  keeps : remakes (t .register) (kind call) (step s call x .answer) ≡ false → StruckIn s t (step s call x .state)
+  silent : asks-about (kind call) ≡ some t → step s call x .answer ≡ Said New → ⊥
+
 -- words that are vetted are so under one settings only: so one settings will do
 guarded-by : (t : Strike) (st ws : List ℕ) → Vetted st ws → StruckIn (settings-of st) t (held-in (settings-of st) ws) → Guarded t ws
 guarded-by t st ws v h =
     record { struck = λ st′ v′. subst (λ (s : Settings). StruckIn s t (held-in s ws)) (one-settings st st′ ws v v′) h }
+
+-- ---- an opening
+kind-remakes : (r : ℕ) (k : Kind) (a : Answer) → opens k ≡ true → went-through a ≡ true → remakes r k a ≡ true
+unfolding opens remakes
+kind-remakes r (Opens limits starts) a o t = t
+kind-remakes r (OnOne q d) a o t = no (cc)
+kind-remakes r (Sets limits) a o t = no (cc)
+kind-remakes r Other a o t = no (cc)
+
+kind-silent : (t : Strike) (k : Kind) → opens k ≡ true → asks-about k ≡ some t → ⊥
+unfolding opens asks-about
+kind-silent t (Opens limits starts) o e = none-some e
+kind-silent t (OnOne q d) o e = no (cc)
+kind-silent t (Sets limits) o e = none-some e
+kind-silent t Other o e = none-some e
 
 -- ---- one call, of words and settings that are any
 module _ (st ws : List ℕ) (call : Call) where
@@ -64,25 +85,25 @@ module _ (st ws : List ℕ) (call : Call) where
         (subst (λ (x : State). StruckIn s t x) (sym (after-holds st ws call z)) h)
 
     -- an opening asks about no ticket and remakes every register
-    opens-all : (r : ℕ) (c : Call) → is-open c ≡ true → remakes r (kind c) (step s c held .answer) ≡ true
-    unfolding is-open kind remakes step went-through
-    opens-all r (Open limits starts) o = refl
-    opens-all r (On q d) o = no (cc)
-    opens-all r (Expire ms) o = no (cc)
-    opens-all r (SetLimits limits) o = no (cc)
-    opens-all r Close o = no (cc)
-    opens-all r (HeldBy k number) o = no (cc)
-    opens-all r (ClassTotals c) o = no (cc)
+    opens-all : (r : ℕ) → is-open call ≡ true → remakes r (kind call) (step s call held .answer) ≡ true
+    unfolding is-open
+    opens-all r o = kind-remakes r (kind call) _ o (step-through s call held)
 
-    opens-silent : (t : Strike) (c : Call) → is-open c ≡ true → asks-about (kind c) ≡ some t → ⊥
-    unfolding is-open kind asks-about
-    opens-silent t (Open limits starts) o e = none-some e
-    opens-silent t (On q d) o e = no (cc)
-    opens-silent t (Expire ms) o e = none-some e
-    opens-silent t (SetLimits limits) o e = none-some e
-    opens-silent t Close o e = none-some e
-    opens-silent t (HeldBy k number) o e = none-some e
-    opens-silent t (ClassTotals c) o e = none-some e
+    opens-silent : (t : Strike) → is-open call ≡ true → asks-about (kind call) ≡ some t → ⊥
+    unfolding is-open
+    opens-silent t o e = kind-silent t (kind call) o e
+
+    -- what it owes to a struck ticket, and to one that it strikes
+    good : settings-words-fit st ≡ true → state-form s .Ok held → (t : Strike) → 0 < t .print → StruckIn s t held → GoodCall s t call held
+    unfolding step kind no-such-register
+    good fit ok t pos struck =
+        let g = lawful call .guards s t held pos (fit-settings st fit) (entered st ws call z .register) ok struck in
+        record { keeps = g .keeps; silent = g .silent }
+
+    strikes : (t : Strike) → state-form s .Ok held → takes (kind call) ≡ some t → step s call held .answer ≡ Said New
+        → (0 < t .print) × StruckIn s t (step s call held .state)
+    unfolding step kind no-such-register
+    strikes t ok e n = lawful call .strikes s t held (entered st ws call z .register) ok e n
 
     not-remade : (t : Strike) → remade (t .register) seen ≡ false → remakes (t .register) (kind call) (step s call held .answer) ≡ false
     not-remade t e = sym (ap (λ (a : Answer). remakes (t .register) (kind call) a) (reply-is st ws call z)) ∙ e
@@ -93,37 +114,43 @@ module _ (st ws : List ℕ) (call : Call) where
         by-test (eqb (refused st ws call) 0)
         (λ d. let z = eqb-true (refused st ws call) 0 d in
         let r = not-remade z t e in
-        by-test (is-open call) (λ o. true-false (opens-all z (t .register) call o) r)
+        by-test (is-open call) (λ o. true-false (opens-all z (t .register) o) r)
         (λ o. let v = was-vetted z o in
-        guarded-after z t (good s t pos (fit-settings st (v .fit)) call held (entered st ws call z .register) (vetted-ok st ws v) (g .struck st v) .keeps r)))
+        guarded-after z t (good z (v .fit) (vetted-ok st ws v) t pos (g .struck st v) .keeps r)))
         (λ d. subst (λ (l : List ℕ). Guarded t l) (sym (refused-words st ws call d)) g)
 
     call-silent : CalledNew t seen → ⊥
     call-silent c =
         by-test (eqb (refused st ws call) 0)
         (λ d. let z = eqb-true (refused st ws call) 0 d in
-        by-test (is-open call) (λ o. opens-silent z t call o (c .0))
+        by-test (is-open call) (λ o. opens-silent z t o (c .0))
         (λ o. let v = was-vetted z o in
-        good s t pos (fit-settings st (v .fit)) call held (entered st ws call z .register) (vetted-ok st ws v) (g .struck st v) .silent (c .0) (sym (reply-is st ws call z) ∙ c .1)))
+        good z (v .fit) (vetted-ok st ws v) t pos (g .struck st v) .silent (c .0) (sym (reply-is st ws call z) ∙ c .1)))
         (λ d. refused-new d (c .1))
+
+  sort-takes-asks : (t : Strike) (r : ℕ) (d : Sort) → sort-takes r d ≡ some t → sort-asks r d ≡ some t
+  unfolding sort-takes sort-asks
+  sort-takes-asks t r (Asks a) e = absurd (none-some e)
+  sort-takes-asks t r (Takes a) e = e
+  sort-takes-asks t r Restores e = e
+  sort-takes-asks t r Resumes e = e
+  sort-takes-asks t r Plain e = e
 
   takes-asks : (t : Strike) (k : Kind) → takes k ≡ some t → asks-about k ≡ some t
   unfolding takes asks-about
-  takes-asks t (Kind.Asks u) e = absurd (none-some e)
-  takes-asks t (Kind.Takes u) e = e
-  takes-asks t Kind.Opens e = e
-  takes-asks t (Kind.Restores r) e = e
-  takes-asks t (Kind.Resumes r) e = e
-  takes-asks t Kind.Other e = e
+  takes-asks t (Opens limits starts) e = e
+  takes-asks t (OnOne r d) e = sort-takes-asks t r d e
+  takes-asks t (Sets limits) e = e
+  takes-asks t Other e = e
 
   -- a take that answers New leaves its ticket guarded
   call-strikes : (t : Strike) → Accepted t seen → (0 < t .print) × Guarded t (after st ws call)
   call-strikes t c =
       by-test (eqb (refused st ws call) 0)
       (λ d. let z = eqb-true (refused st ws call) 0 d in
-      by-test (is-open call) (λ o. absurd (opens-silent z t call o (takes-asks t (kind call) (c .0))))
+      by-test (is-open call) (λ o. absurd (opens-silent z t o (takes-asks t (kind call) (c .0))))
       (λ o. let v = was-vetted z o in
-      let k = strikes s t call held (entered st ws call z .register) (vetted-ok st ws v) (c .0) (sym (reply-is st ws call z) ∙ c .1) in
+      let k = strikes z t (vetted-ok st ws v) (c .0) (sym (reply-is st ws call z) ∙ c .1) in
       (k .0, guarded-after z t (k .1))))
       (λ d. absurd (refused-new d (c .1)))
 

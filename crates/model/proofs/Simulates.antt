@@ -10,19 +10,17 @@ use lib.Dec.{eqb}
 use lib.ListN.{length, drop, length-append, length-drop}
 use borrow.Author.Tests.{eqb-true, eq-eqb, ltb-false, not-false}
 use Rattle.model.specs.declared.Settings.{Settings}
-use Rattle.model.specs.declared.Answer.{Answer}
-use Rattle.model.specs.declared.Answer.the-variants.{Refused, Done, Said, Yes, No, Begun, Already, Dumped, Whole, Partly, NoFloor, FloorAt, SweptTo, Entries, Totals}
 use Rattle.runs.proofs.Cases.{by-test, both-true, no}
 use Rattle.model.specs.Settings.{settings-width, settings-of, settings-fit, words-needed}
 use Rattle.model.specs.Words.{State, state-form}
-use Rattle.model.specs.Calls.{Call, Open, On, Expire, SetLimits, Close, HeldBy, ClassTotals, step, codes-fit, settings-words-fit, unfit, too-short, is-open, sound, unsound, no-such-register, first-met, held-in, refused, reply, after}
+use Rattle.model.specs.Calls.{Call, step, codes-fit, settings-words-fit, unfit, too-short, is-open, sound, unsound, no-such-register, first-met, held-in, refused, reply, after}
 use Rattle.model.specs.View.{kept-settings, view}
 use Rattle.model.specs.Codes.{went-through}
-use Rattle.model.specs.Soundness.{Vetted, Simulation}
+use Rattle.model.specs.Soundness.{SoundnessKept, Vetted, Simulation}
 use Rattle.model.proofs.Choice.{or-cases, true-false}
 use Rattle.model.proofs.Words.{state-exact, state-wide}
 use Rattle.model.proofs.View.{brought-trimmed, sound-holds, written, kept-are, view-written}
-use Rattle.model.proofs.SoundnessKept.{opened-sound, soundness-kept}
+use Rattle.model.proofs.EveryCall.{lawful}
 
 -- ---- a refusal alters nothing
 pub refused-words : (st ws : List ℕ) (call : Call) → eqb (refused st ws call) 0 ≡ false → after st ws call ≡ ws
@@ -79,16 +77,9 @@ pub one-settings : (st st′ ws : List ℕ) → Vetted st ws → Vetted st′ ws
 one-settings st st′ ws v v′ = sym (vetted-kept st ws v) ∙ vetted-kept st′ ws v′
 
 -- ---- the state that a call leaves is well formed
-open-ok : (s : Settings) (call : Call) (t : State) → settings-fit s ≡ true → codes-fit s call ≡ true → is-open call ≡ true
-    → state-form s .Ok (step s call t .state)
-unfolding step is-open
-open-ok s (Open limits starts) t fit codes e = opened-sound s limits starts fit codes
-open-ok s (On r d) t fit codes e = no (cc)
-open-ok s (Expire ms) t fit codes e = no (cc)
-open-ok s (SetLimits limits) t fit codes e = no (cc)
-open-ok s Close t fit codes e = no (cc)
-open-ok s (HeldBy kind number) t fit codes e = no (cc)
-open-ok s (ClassTotals c) t fit codes e = no (cc)
+pub soundness-kept : SoundnessKept
+unfolding step codes-fit no-such-register
+soundness-kept s call t fit adm ok = lawful call .sound s t fit (adm .0) (adm .1) (λ o. ok)
 
 module _ (st ws : List ℕ) (call : Call) (z : refused st ws call ≡ 0) where
   abbrev s : Settings
@@ -98,12 +89,11 @@ module _ (st ws : List ℕ) (call : Call) (z : refused st ws call ≡ 0) where
   left = step s call (held-in s ws) .state
 
   left-ok : state-form s .Ok left
+  unfolding step codes-fit is-open no-such-register
   left-ok =
       let e = entered st ws call z in
-      let f = fit-settings st (e .fit) in
-      by-test (is-open call) (λ o. open-ok s call (held-in s ws) f (e .codes) o)
-      (λ o. soundness-kept s call (held-in s ws) f (e .codes, e .register)
-      (vetted-ok st ws (record { fit = e .fit; long = e .long; sound = e .vets o })))
+      lawful call .sound s (held-in s ws) (fit-settings st (e .fit)) (e .codes) (e .register)
+      (λ o. vetted-ok st ws (record { fit = e .fit; long = e .long; sound = e .vets o }))
 
   pub after-is : after st ws call ≡ state-form s .enc left ++ drop (words-needed s) ws
   unfolding after
@@ -136,25 +126,6 @@ module _ (st ws : List ℕ) (call : Call) (z : refused st ws call ≡ 0) where
       let w = state-exact s .width left left-ok ∙ state-wide s (fit-settings st (e .fit)) in
       let l = e .long in
       ap length after-is ∙ rw (length-append, w, length-drop) (omega arith)
-
--- ---- an answer that is no refusal went through
-pub through-is : (a : Answer) → ((n : ℕ) → a ≡ Refused n → ⊥) → went-through a ≡ true
-unfolding went-through
-through-is (Refused n) f = absurd (f n refl)
-through-is Done f = refl
-through-is (Said v) f = refl
-through-is Yes f = refl
-through-is No f = refl
-through-is Begun f = refl
-through-is Already f = refl
-through-is (Dumped n) f = refl
-through-is (Whole n) f = refl
-through-is (Partly n) f = refl
-through-is NoFloor f = refl
-through-is (FloorAt x) f = refl
-through-is (SweptTo b ms) f = refl
-through-is (Entries n) f = refl
-through-is (Totals e h u x) f = refl
 
 -- ---- a reply that is no refusal comes of a refusal number of 0
 pub through-zero : (st ws : List ℕ) (call : Call) → went-through (reply st ws call) ≡ true → refused st ws call ≡ 0

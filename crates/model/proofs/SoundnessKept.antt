@@ -1,4 +1,4 @@
--- Every call takes a well-formed state to a well-formed state (specs/Soundness). Assumes nothing.
+-- A well-formed state's parts, and the calls on one register and the opening that leave a well-formed state (specs/Soundness). Assumes nothing.
 use Prim.Native.Nat.{ℕ, zero, suc, _+_, _*_, _≤_, _<_}
 use native.Mathlib.Omega.{arith}
 use mathlib.Core.Path.{_≡_, refl, ap, _∙_}
@@ -7,7 +7,6 @@ use mathlib.Core.List.{List}
 use mathlib.Core.Option.{Option, none, some}
 use lib.Dec.{eqb}
 use lib.ListN.{length, getD, length-set, length-replicate}
-use borrow.Author.Tests.{leb-false}
 use Rattle.model.specs.declared.Class.{Class}
 use Rattle.model.specs.declared.Class.the-variants.{Feeders, Peers, Own}
 use Rattle.model.specs.declared.Settings.{Settings}
@@ -20,15 +19,15 @@ use Rattle.model.specs.Codes.{start-of}
 use Rattle.model.specs.Book.{Book}
 use Rattle.model.specs.Register.{Register}
 use Rattle.model.specs.Judge.{Ask, judge-batch}
-use Rattle.model.specs.Dump.{Dump, read-dump}
+use Rattle.model.specs.Dump.{Dump}
 use Rattle.model.specs.BookWords.{class-form}
 use Rattle.model.specs.RegisterWords.{register-form}
 use Rattle.model.specs.Words.{State, front-spare, unused-width, state-form}
-use Rattle.model.specs.Calls.{Manner, judged, judged-batch, taken, taken-batch, Deed, Ticket, ContainsHash, Begin, Sweep, DumpTo, Restore, Resume, Floor, Pending, SweptBucket, Open, On, Expire, SetLimits, Close, HeldBy, ClassTotals, Step, no-register, register-at, with-register, with-book, start-all, opened, after-judged, after-taken, asked, after-restored, restored, proven-of, resumed, done-on, least-published, step, starts-fit, limits-words-fit, codes-fit, no-such-register}
-use Rattle.model.specs.Soundness.{SoundnessKept, OpenedSound}
+use Rattle.model.specs.Calls.{Manner, judged, judged-batch, taken, taken-batch, Step, no-register, register-at, with-register, with-book, start-all, opened, after-judged, after-taken, asked, after-restored, restored, resumed, starts-fit, limits-words-fit, codes-fit}
+use Rattle.model.specs.Soundness.{OpenedSound}
 use Rattle.model.proofs.Bounds.{slots-small, fit-shares, fit-usable}
-use Rattle.model.proofs.RingsKept.{RegisterOk, from-form, to-form, sweep-ok, begin-ok, started-ok}
-use Rattle.model.proofs.BookKept.{BookOk, pairs-some, expired-ok, closed-ok, limited-ok, opened-ok}
+use Rattle.model.proofs.RingsKept.{RegisterOk, from-form, to-form, started-ok}
+use Rattle.model.proofs.BookKept.{BookOk, pairs-some, opened-ok}
 use Rattle.model.proofs.Judging.{judge-ok, take-ok, take-batch-ok}
 use Rattle.model.proofs.RestoreKept.{Fine, restore-fine, resume-fine}
 
@@ -81,7 +80,7 @@ module _ (s : Settings) where
   started-length starts r zero = refl
   started-length starts r (suc n) = ap suc (started-length starts (suc r) n)
 
-  limits-in : (limits : List ℕ) → limits-words-fit limits ≡ true → limits-fit (limits-of limits) ≡ true
+  pub limits-in : (limits : List ℕ) → limits-words-fit limits ≡ true → limits-fit (limits-of limits) ≡ true
   unfolding limits-words-fit
   limits-in limits t = both-true (eqb (length limits) limits-width) (limits-fit (limits-of limits)) t .1
 
@@ -98,7 +97,7 @@ module _ (s : Settings) where
 
   -- ---- a call on one register
   module _ (fit : settings-fit s ≡ true) (r : ℕ) (h : r < s .registers) (t : State) (ok : state-form s .Ok t) where
-    abbrev After : Step → Type 0
+    abbrev pub After : Step → Type 0
     After e = state-form s .Ok (e .state)
 
     small : usable-at s r .slots ≤ 1_024
@@ -113,7 +112,7 @@ module _ (s : Settings) where
     both-ok : (reg : Register) (k : Book) → RegisterOk (usable-at s r) reg → BookOk (s .shares) k → state-form s .Ok (with-book k (with-register r reg t))
     both-ok reg k new book = with-book-ok k (with-register r reg t) book (with-register-ok r reg t new ok)
 
-    asked-ok : (m : Manner) (a : Ask) → After (asked s r m a t)
+    pub asked-ok : (m : Manner) (a : Ask) → After (asked s r m a t)
     unfolding asked after-judged after-taken judge-batch
     asked-ok judged a = with-register-ok r _ t (judge-ok (usable-at s r) (register-at r t) a reg-ok) ok
     asked-ok judged-batch a = with-register-ok r _ t (judge-ok (usable-at s r) (register-at r t) a reg-ok) ok
@@ -127,45 +126,21 @@ module _ (s : Settings) where
     fine : Fine (usable-at s r) (s .shares) (register-at r t) (t .book)
     fine = record { register = reg-ok; book = book-in t ok }
 
-    restored-ok : (d : Option Dump) → After (restored s r t d)
+    pub restored-ok : (d : Option Dump) → After (restored s r t d)
     unfolding restored after-restored
     restored-ok none = ok
     restored-ok (some d) =
         let p = restore-fine (usable-at s r) (s .shares) small some-pairs d (register-at r t) (t .book) fine in
         both-ok _ _ (p .register) (p .book)
 
-    resumed-ok : (proven : Option ℕ) (d : Option Dump) → After (resumed s r t proven d)
+    pub resumed-ok : (proven : Option ℕ) (d : Option Dump) → After (resumed s r t proven d)
     unfolding resumed after-restored
     resumed-ok proven none = ok
     resumed-ok proven (some d) =
         let p = resume-fine (usable-at s r) (s .shares) small some-pairs d proven (register-at r t) (t .book) fine in
         both-ok _ _ (p .register) (p .book)
 
-    deed-ok : (d : Deed) → After (done-on s r d t)
-    unfolding done-on
-    deed-ok (Ticket m a) = asked-ok m _
-    deed-ok (ContainsHash fp) = ok
-    deed-ok (Begin number) = with-register-ok r _ t (begin-ok (usable-at s r) number (register-at r t) reg-ok) ok
-    deed-ok (Sweep ms) = with-register-ok r _ t (sweep-ok (usable-at s r) ms (register-at r t) reg-ok) ok
-    deed-ok (DumpTo out) = ok
-    deed-ok (Restore bytes) = restored-ok (read-dump bytes)
-    deed-ok (Resume bytes flag floor) = resumed-ok (proven-of flag floor) (read-dump bytes)
-    deed-ok Floor = ok
-    deed-ok Pending = ok
-    deed-ok SweptBucket = ok
-
--- ---- every call
+-- ---- an opening
 pub opened-sound : OpenedSound
 unfolding codes-fit
 opened-sound s limits starts fit codes = opening s limits starts (limits-in s limits (both-true (limits-words-fit limits) (starts-fit s starts) codes .0))
-
-pub soundness-kept : SoundnessKept
-unfolding step codes-fit no-such-register
-soundness-kept s (Open limits starts) t fit adm ok = opened-sound s limits starts fit (adm .0)
-soundness-kept s (On r d) t fit adm ok = deed-ok s fit r (leb-false (s .registers) r (adm .1)) t ok d
-soundness-kept s (Expire ms) t fit adm ok = with-book-ok s _ t (expired-ok (s .shares) (least-published s 0 (t .registers) ms) (t .book) (book-in s t ok)) ok
-soundness-kept s (SetLimits limits) t fit adm ok =
-    with-book-ok s _ t (limited-ok (s .shares) (limits-of limits) (t .book) (limits-in s limits (adm .0)) (book-in s t ok)) ok
-soundness-kept s Close t fit adm ok = with-book-ok s _ t (closed-ok (s .shares) (t .book) (book-in s t ok)) ok
-soundness-kept s (HeldBy kind number) t fit adm ok = ok
-soundness-kept s (ClassTotals c) t fit adm ok = ok

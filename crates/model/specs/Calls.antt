@@ -55,7 +55,7 @@ pub data Call : Type 0 where
   HeldBy : ℕ → ℕ → Call
   ClassTotals : ℕ → Call
 
--- ---- what each does to a state that nothing refuses
+-- ---- what is done to a state that nothing refuses
 pub record Step : Type 0 where
   pub answer : Answer
   pub state : State
@@ -131,20 +131,6 @@ abbrev pub floor-answer : Option ℕ → Answer
 floor-answer none = NoFloor
 floor-answer (some f) = FloorAt f
 
-unfoldable pub done-on : Settings → ℕ → Deed → State → Step
-done-on s r (Ticket m a) t = asked s r m (ask-of a) t
-done-on s r (ContainsHash fp) t = record { answer = yes-no (any-class (holds-any (as-read fp)) (register-at r t .rings)); state = t }
-done-on s r (Begin number) t =
-    record { answer = cond (register-at r t .pending) Begun Already; state = with-register r (begin number (register-at r t)) t }
-done-on s r (Sweep ms) t = record { answer = Done; state = with-register r (sweep (usable-at s r) ms (register-at r t)) t }
-done-on s r (DumpTo out) t = record { answer = Dumped (length (dump-bytes (register-at r t))); state = t }
-done-on s r (Restore bytes) t = restored s r t (read-dump bytes)
-done-on s r (Resume bytes flag floor) t = resumed s r t (proven-of flag floor) (read-dump bytes)
-done-on s r Floor t = record { answer = floor-answer (register-at r t .floor); state = t }
-done-on s r Pending t = record { answer = yes-no (register-at r t .pending); state = t }
-done-on s r SweptBucket t =
-    record { answer = SweptTo (register-at r t .swept) (published (usable-at s r) (register-at r t .swept)); state = t }
-
 -- "the least of all published sweeps and the reading"
 unfoldable pub least-published : Settings → ℕ → List Register → ℕ → ℕ
 least-published s r [] ms = ms
@@ -153,18 +139,8 @@ least-published s r (reg ∷ regs) ms = least-published s (suc r) regs (min ms (
 unfoldable pub class-totals : Settings → Held → Answer
 class-totals s h = Totals (entries-in (h .places)) (length (h .places)) (units (s .shares) (h .places)) (h .expired)
 
-unfoldable pub step : Settings → Call → State → Step
-step s (Open limits starts) t = record { answer = Done; state = opened s limits starts }
-step s (On r d) t = done-on s r d t
-step s (Expire ms) t = record { answer = Done; state = with-book (expire (least-published s 0 (t .registers) ms) (t .book)) t }
-step s (SetLimits limits) t = record { answer = Done; state = with-book (with-limits (limits-of limits) (t .book)) t }
-step s Close t = record { answer = Done; state = with-book (closed-book (t .book)) t }
-step s (HeldBy kind number) t =
-    let who = deliverer-of kind number in record { answer = Entries (entries-of who (places-of (class-of who) (t .book))); state = t }
-step s (ClassTotals c) t = record { answer = class-totals s (pick (class-at c) (t .book .classes)); state = t }
-
 -- ---- refusals
--- 1: "a setting or limit outside its bounds, or a deliverer kind, class, start, flag or other code not listed"
+-- 1, its codes: "a setting or limit outside its bounds, or a deliverer kind, class, start, flag or other code not listed"
 unfoldable pub start-fits-at : Settings → List ℕ → ℕ → Bool
 start-fits-at s starts r = leb (s .registers) r || start-fits (getD starts (2 * r) 0)
 
@@ -179,27 +155,213 @@ starts-fit s starts =
 unfoldable pub limits-words-fit : List ℕ → Bool
 limits-words-fit limits = eqb (length limits) limits-width && limits-fit (limits-of limits)
 
+-- a refusal number and whether its condition holds
+pub record Refusal : Type 0 where
+  pub number : ℕ
+  pub met : Bool
+
+abbrev pub refusal : ℕ → Bool → Refusal
+refusal n b = record { number = n; met = b }
+
+-- 6: "dump while pending", 5: "dump output too short"
+abbrev pub late-dump : List ℕ → Register → List Refusal
+late-dump out reg = refusal 6 (reg .pending) ∷ refusal 5 (ltb (length out) (length (dump-bytes reg))) ∷ []
+
+-- 7: "dump cut short"
+unfoldable pub is-cut : Option Dump → Bool
+is-cut none = true
+is-cut (some d) = false
+
+abbrev pub late-restore : List ℕ → List Refusal
+late-restore bytes = refusal 7 (is-cut (read-dump bytes)) ∷ []
+
+abbrev pub never-late : List Refusal
+never-late = []
+
+-- ---- calls, sorted for what is promised of lists of them
+-- a deed
+pub data Sort : Type 0 where
+  -- judge and judge_batch; take and take_batch
+  Asks Takes : Asking → Sort
+  Restores Resumes : Sort
+  -- any other
+  Plain : Sort
+
+pub data Kind : Type 0 where
+  -- an opening, with its limits and starts
+  Opens : List ℕ → List ℕ → Kind
+  OnOne : ℕ → Sort → Kind
+  -- a limit change
+  Sets : List ℕ → Kind
+  -- any other
+  Other : Kind
+
+unfoldable pub manner-sort : Manner → Asking → Sort
+manner-sort judged a = Asks a
+manner-sort judged-batch a = Asks a
+manner-sort taken a = Takes a
+manner-sort taken-batch a = Takes a
+
+unfoldable pub opens : Kind → Bool
+opens (Opens limits starts) = true
+opens (OnOne r d) = false
+opens (Sets limits) = false
+opens Other = false
+
+-- 4: "register number not below R"
+unfoldable pub beyond : Settings → Kind → Bool
+beyond s (Opens limits starts) = false
+beyond s (OnOne r d) = leb (s .registers) r
+beyond s (Sets limits) = false
+beyond s Other = false
+
+-- ---- every deed, in one clause
+pub record Act : Type 0 where
+  -- its codes are listed
+  pub fits : Bool
+  -- its own refusals after 4, in the order in which they are tried
+  pub late : Register → List Refusal
+  -- what it does to a state that nothing refuses
+  pub does : Settings → ℕ → State → Step
+  -- the output that it is lent, and the bytes that it writes there
+  pub output : List ℕ
+  pub writes : Register → List ℕ
+  pub sort : Sort
+
+-- one that reads: it answers, and writes to its output alone
+abbrev pub shows : Bool → (Register → List Refusal) → List ℕ → (Register → List ℕ) → (Settings → ℕ → State → Answer) → Act
+shows fits late output writes says = record {
+  fits = fits;
+  late = late;
+  does = λ s r t. record { answer = says s r t; state = t };
+  output = output;
+  writes = writes;
+  sort = Plain;
+}
+
+abbrev pub looks : (Settings → ℕ → State → Answer) → Act
+looks says = shows true (λ reg. never-late) [] (λ reg. []) says
+
+-- one that alters the state
+abbrev pub alters : Bool → List Refusal → Sort → (Settings → ℕ → State → Step) → Act
+alters fits late sort does = record { fits = fits; late = λ reg. late; does = does; output = []; writes = λ reg. []; sort = sort }
+
+unfoldable pub act : Deed → Act
+act (Ticket m a) =
+    alters (flag-fits (a .flag) && deliverer-fits (a .kind) (a .number)) never-late (manner-sort m a) (λ s r t. asked s r m (ask-of a) t)
+act (ContainsHash fp) = looks (λ s r t. yes-no (any-class (holds-any (as-read fp)) (register-at r t .rings)))
+act (Begin number) =
+    alters true never-late Plain
+    (λ s r t. record { answer = cond (register-at r t .pending) Begun Already; state = with-register r (begin number (register-at r t)) t })
+act (Sweep ms) =
+    alters true never-late Plain (λ s r t. record { answer = Done; state = with-register r (sweep (usable-at s r) ms (register-at r t)) t })
+act (DumpTo out) = shows true (late-dump out) out dump-bytes (λ s r t. Dumped (length (dump-bytes (register-at r t))))
+act (Restore bytes) = alters true (late-restore bytes) Restores (λ s r t. restored s r t (read-dump bytes))
+act (Resume bytes flag floor) =
+    alters (flag-fits flag) (late-restore bytes) Resumes (λ s r t. resumed s r t (proven-of flag floor) (read-dump bytes))
+act Floor = looks (λ s r t. floor-answer (register-at r t .floor))
+act Pending = looks (λ s r t. yes-no (register-at r t .pending))
+act SweptBucket = looks (λ s r t. SweptTo (register-at r t .swept) (published (usable-at s r) (register-at r t .swept)))
+
 unfoldable pub deed-fits : Deed → Bool
-deed-fits (Ticket m a) = flag-fits (a .flag) && deliverer-fits (a .kind) (a .number)
-deed-fits (ContainsHash fp) = true
-deed-fits (Begin number) = true
-deed-fits (Sweep ms) = true
-deed-fits (DumpTo out) = true
-deed-fits (Restore bytes) = true
-deed-fits (Resume bytes flag floor) = flag-fits flag
-deed-fits Floor = true
-deed-fits Pending = true
-deed-fits SweptBucket = true
+unfolding act
+deed-fits d = act d .fits
+
+unfoldable pub late-deed : Register → Deed → List Refusal
+unfolding act
+late-deed reg d = act d .late reg
+
+unfoldable pub done-on : Settings → ℕ → Deed → State → Step
+unfolding act
+done-on s r d t = act d .does s r t
+
+-- ---- and every call
+pub record Meaning : Type 0 where
+  pub fits : Settings → Bool
+  pub late : Settings → State → List Refusal
+  pub does : Settings → State → Step
+  pub output : List ℕ
+  pub writes : State → List ℕ
+  pub kind : Kind
+
+-- one that reads
+abbrev pub shows-all : (Settings → Bool) → (Settings → State → List Refusal) → List ℕ → (State → List ℕ) → (Settings → State → Answer) → Meaning
+shows-all fits late output writes says = record {
+  fits = fits;
+  late = late;
+  does = λ s t. record { answer = says s t; state = t };
+  output = output;
+  writes = writes;
+  kind = Other;
+}
+
+abbrev pub tells : Bool → (Settings → State → Answer) → Meaning
+tells fits says = shows-all (λ s. fits) (λ s t. never-late) [] (λ t. []) says
+
+-- one that is done
+abbrev pub makes : (Settings → Bool) → Kind → (Settings → State → State) → Meaning
+makes fits kind leaves = record {
+  fits = fits;
+  late = λ s t. never-late;
+  does = λ s t. record { answer = Done; state = leaves s t };
+  output = [];
+  writes = λ t. [];
+  kind = kind;
+}
+
+unfoldable pub meaning : Call → Meaning
+meaning (Open limits starts) =
+    makes (λ s. limits-words-fit limits && starts-fit s starts) (Opens limits starts) (λ s t. opened s limits starts)
+meaning (On r d) = record {
+  fits = λ s. deed-fits d;
+  late = λ s t. late-deed (register-at r t) d;
+  does = λ s t. done-on s r d t;
+  output = act d .output;
+  writes = λ t. act d .writes (register-at r t);
+  kind = OnOne r (act d .sort);
+}
+meaning (Expire ms) = makes (λ s. true) Other (λ s t. with-book (expire (least-published s 0 (t .registers) ms) (t .book)) t)
+meaning (SetLimits limits) = makes (λ s. limits-words-fit limits) (Sets limits) (λ s t. with-book (with-limits (limits-of limits) (t .book)) t)
+meaning Close = makes (λ s. true) Other (λ s t. with-book (closed-book (t .book)) t)
+meaning (HeldBy kind number) =
+    tells (deliverer-fits kind number)
+    (λ s t. let who = deliverer-of kind number in Entries (entries-of who (places-of (class-of who) (t .book))))
+meaning (ClassTotals c) = tells (class-fits c) (λ s t. class-totals s (pick (class-at c) (t .book .classes)))
 
 unfoldable pub codes-fit : Settings → Call → Bool
-codes-fit s (Open limits starts) = limits-words-fit limits && starts-fit s starts
-codes-fit s (On r d) = deed-fits d
-codes-fit s (Expire ms) = true
-codes-fit s (SetLimits limits) = limits-words-fit limits
-codes-fit s Close = true
-codes-fit s (HeldBy kind number) = deliverer-fits kind number
-codes-fit s (ClassTotals c) = class-fits c
+unfolding meaning
+codes-fit s call = meaning call .fits s
 
+unfoldable pub late : Settings → Call → State → List Refusal
+unfolding meaning
+late s call t = meaning call .late s t
+
+unfoldable pub step : Settings → Call → State → Step
+unfolding meaning
+step s call t = meaning call .does s t
+
+unfoldable pub output-of : Call → List ℕ
+unfolding meaning act
+output-of call = meaning call .output
+
+unfoldable pub dumped-by : Call → State → List ℕ
+unfolding meaning act
+dumped-by call t = meaning call .writes t
+
+unfoldable pub kind : Call → Kind
+unfolding meaning
+kind call = meaning call .kind
+
+unfoldable pub is-open : Call → Bool
+unfolding kind opens
+is-open call = opens (kind call)
+
+unfoldable pub no-such-register : Settings → Call → Bool
+unfolding kind beyond
+no-such-register s call = beyond s (kind call)
+
+-- ---- refusals that every call has
+-- 1
 unfoldable pub settings-words-fit : List ℕ → Bool
 settings-words-fit st = eqb (length st) settings-width && settings-fit (settings-of st)
 
@@ -211,89 +373,20 @@ unfoldable pub too-short : List ℕ → List ℕ → Bool
 too-short st ws = ltb (length ws) (words-needed (settings-of st))
 
 -- 3: "words that break a soundness rule"; "Opening overwrites the words and tries 1 and 2 alone"
-unfoldable pub is-open : Call → Bool
-is-open (Open limits starts) = true
-is-open (On r d) = false
-is-open (Expire ms) = false
-is-open (SetLimits limits) = false
-is-open Close = false
-is-open (HeldBy kind number) = false
-is-open (ClassTotals c) = false
-
 unfoldable pub sound : Settings → List ℕ → Bool
 sound s ws = state-form s .test (take (words-needed s) ws)
 
 unfoldable pub unsound : List ℕ → List ℕ → Call → Bool
 unsound st ws call = not (is-open call || sound (settings-of st) ws)
 
--- 4: "register number not below R"
-unfoldable pub no-such-register : Settings → Call → Bool
-no-such-register s (Open limits starts) = false
-no-such-register s (On r d) = leb (s .registers) r
-no-such-register s (Expire ms) = false
-no-such-register s (SetLimits limits) = false
-no-such-register s Close = false
-no-such-register s (HeldBy kind number) = false
-no-such-register s (ClassTotals c) = false
-
--- 6: "dump while pending", 5: "dump output too short", 7: "dump cut short"
-pub record Late : Type 0 where
-  pub pending-dump : Bool
-  pub short-output : Bool
-  pub cut-short : Bool
-
-abbrev pub never-late : Late
-never-late = record { pending-dump = false; short-output = false; cut-short = false }
-
-unfoldable pub is-cut : Option Dump → Bool
-is-cut none = true
-is-cut (some d) = false
-
-abbrev pub late-dump : Register → List ℕ → Late
-late-dump reg out = record { pending-dump = reg .pending; short-output = ltb (length out) (length (dump-bytes reg)); cut-short = false }
-
-abbrev pub late-restore : List ℕ → Late
-late-restore bytes = record { pending-dump = false; short-output = false; cut-short = is-cut (read-dump bytes) }
-
-unfoldable pub late-deed : Register → Deed → Late
-late-deed reg (Ticket m a) = never-late
-late-deed reg (ContainsHash fp) = never-late
-late-deed reg (Begin number) = never-late
-late-deed reg (Sweep ms) = never-late
-late-deed reg (DumpTo out) = late-dump reg out
-late-deed reg (Restore bytes) = late-restore bytes
-late-deed reg (Resume bytes flag floor) = late-restore bytes
-late-deed reg Floor = never-late
-late-deed reg Pending = never-late
-late-deed reg SweptBucket = never-late
-
-unfoldable pub late : Call → State → Late
-late (Open limits starts) t = never-late
-late (On r d) t = late-deed (register-at r t) d
-late (Expire ms) t = never-late
-late (SetLimits limits) t = never-late
-late Close t = never-late
-late (HeldBy kind number) t = never-late
-late (ClassTotals c) t = never-late
-
--- a refusal number and whether its condition holds
-pub record Refusal : Type 0 where
-  pub number : ℕ
-  pub met : Bool
-
-abbrev pub refusal : ℕ → Bool → Refusal
-refusal n b = record { number = n; met = b }
-
 -- the number of the first that is met, or 0
 unfoldable pub first-met : List Refusal → ℕ
 first-met [] = 0
 first-met (x ∷ xs) = cond (x .met) (x .number) (first-met xs)
 
--- what a state has to say: 4, 6, 5, 7
+-- what a state has to say: 4, and the call's own
 abbrev pub refusals-of : Settings → Call → State → List Refusal
-refusals-of s call t =
-    refusal 4 (no-such-register s call) ∷ refusal 6 (late call t .pending-dump) ∷ refusal 5 (late call t .short-output)
-    ∷ refusal 7 (late call t .cut-short) ∷ []
+refusals-of s call t = refusal 4 (no-such-register s call) ∷ late s call t
 
 -- what words hold under settings
 unfoldable pub held-in : Settings → List ℕ → State
@@ -324,48 +417,11 @@ after st ws call =
 abbrev pub written-over : List ℕ → List ℕ → List ℕ
 written-over bytes out = bytes ++ drop (length bytes) out
 
--- the output that a call is lent, as it leaves it
-unfoldable pub output-of : Call → List ℕ
-output-of (Open limits starts) = []
-output-of (On r (DumpTo out)) = out
-output-of (On r (Ticket m a)) = []
-output-of (On r (ContainsHash fp)) = []
-output-of (On r (Begin number)) = []
-output-of (On r (Sweep ms)) = []
-output-of (On r (Restore bytes)) = []
-output-of (On r (Resume bytes flag floor)) = []
-output-of (On r Floor) = []
-output-of (On r Pending) = []
-output-of (On r SweptBucket) = []
-output-of (Expire ms) = []
-output-of (SetLimits limits) = []
-output-of Close = []
-output-of (HeldBy kind number) = []
-output-of (ClassTotals c) = []
-
-unfoldable pub dumped-by : Call → State → List ℕ
-dumped-by (Open limits starts) t = []
-dumped-by (On r (DumpTo out)) t = dump-bytes (register-at r t)
-dumped-by (On r (Ticket m a)) t = []
-dumped-by (On r (ContainsHash fp)) t = []
-dumped-by (On r (Begin number)) t = []
-dumped-by (On r (Sweep ms)) t = []
-dumped-by (On r (Restore bytes)) t = []
-dumped-by (On r (Resume bytes flag floor)) t = []
-dumped-by (On r Floor) t = []
-dumped-by (On r Pending) t = []
-dumped-by (On r SweptBucket) t = []
-dumped-by (Expire ms) t = []
-dumped-by (SetLimits limits) t = []
-dumped-by Close t = []
-dumped-by (HeldBy kind number) t = []
-dumped-by (ClassTotals c) t = []
-
 unfoldable pub output-after : List ℕ → List ℕ → Call → List ℕ
 output-after st ws call =
     cond (eqb (refused st ws call) 0) (written-over (dumped-by call (held-in (settings-of st) ws)) (output-of call)) (output-of call)
 
 -- the rules of this file, for a theorem that computes
 unfoldable pub compute-calls : ℕ
-unfolding start-all opened after-judged after-taken asked after-restored restored resumed done-on least-published class-totals step start-fits-at starts-fit limits-words-fit deed-fits codes-fit settings-words-fit unfit too-short is-open sound unsound no-such-register is-cut late-deed late first-met held-in refused reply after output-of dumped-by output-after
+unfolding start-all opened after-judged after-taken asked after-restored restored resumed least-published class-totals start-fits-at starts-fit limits-words-fit is-cut manner-sort opens beyond act deed-fits late-deed done-on meaning codes-fit late step output-of dumped-by kind is-open no-such-register settings-words-fit unfit too-short sound unsound first-met held-in refused reply after output-after
 compute-calls = 0

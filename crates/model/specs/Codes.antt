@@ -36,60 +36,54 @@ verdict-number Ahead = 3
 verdict-number Full = 4
 verdict-number Unjudged = 5
 
--- what a call returns: 0, or the refusal number
+-- how an answer goes out, in one clause
+pub record Outgoing : Type 0 where
+  -- what the call returns: 0, or the refusal number
+  pub number : ℕ
+  -- what goes out beside it
+  pub values : List ℕ
+  -- "A call went through if it got no refusal number; Partly counts."
+  pub through : Bool
+  -- a restore that came out Partly: some generation failed, and what its bucket held has gone
+  pub partly : Bool
+
+abbrev pub with-values : List ℕ → Outgoing
+with-values vs = record { number = 0; values = vs; through = true; partly = false }
+
+-- a verdict's number; 1 for yes and for begun, 0 for no and for already; 1 for whole and 0 for partly, with the bytes read; whether
+-- there is a floor, and the floor
+unfoldable pub outgoing : Answer → Outgoing
+outgoing (Refused n) = record { number = n; values = []; through = false; partly = false }
+outgoing Done = with-values []
+outgoing (Said v) = with-values (verdict-number v ∷ [])
+outgoing Yes = with-values (1 ∷ [])
+outgoing No = with-values (0 ∷ [])
+outgoing Begun = with-values (1 ∷ [])
+outgoing Already = with-values (0 ∷ [])
+outgoing (Dumped n) = with-values (n ∷ [])
+outgoing (Whole n) = with-values (1 ∷ n ∷ [])
+outgoing (Partly n) = record { number = 0; values = 0 ∷ n ∷ []; through = true; partly = true }
+outgoing NoFloor = with-values (0 ∷ 0 ∷ [])
+outgoing (FloorAt f) = with-values (1 ∷ f ∷ [])
+outgoing (SweptTo b ms) = with-values (b ∷ ms ∷ [])
+outgoing (Entries n) = with-values (n ∷ [])
+outgoing (Totals e h u x) = with-values (e ∷ h ∷ u ∷ x ∷ [])
+
 unfoldable pub answer-number : Answer → ℕ
-answer-number (Refused n) = n
-answer-number Done = 0
-answer-number (Said v) = 0
-answer-number Yes = 0
-answer-number No = 0
-answer-number Begun = 0
-answer-number Already = 0
-answer-number (Dumped n) = 0
-answer-number (Whole n) = 0
-answer-number (Partly n) = 0
-answer-number NoFloor = 0
-answer-number (FloorAt f) = 0
-answer-number (SweptTo b ms) = 0
-answer-number (Entries n) = 0
-answer-number (Totals e h u x) = 0
+unfolding outgoing
+answer-number a = outgoing a .number
 
--- what goes out beside it: a verdict's number; 1 for yes and for begun, 0 for no and for already; 1 for whole and 0 for partly, with
--- the bytes read; whether there is a floor, and the floor
 unfoldable pub answer-values : Answer → List ℕ
-answer-values (Refused n) = []
-answer-values Done = []
-answer-values (Said v) = verdict-number v ∷ []
-answer-values Yes = 1 ∷ []
-answer-values No = 0 ∷ []
-answer-values Begun = 1 ∷ []
-answer-values Already = 0 ∷ []
-answer-values (Dumped n) = n ∷ []
-answer-values (Whole n) = 1 ∷ n ∷ []
-answer-values (Partly n) = 0 ∷ n ∷ []
-answer-values NoFloor = 0 ∷ 0 ∷ []
-answer-values (FloorAt f) = 1 ∷ f ∷ []
-answer-values (SweptTo b ms) = b ∷ ms ∷ []
-answer-values (Entries n) = n ∷ []
-answer-values (Totals e h u x) = e ∷ h ∷ u ∷ x ∷ []
+unfolding outgoing
+answer-values a = outgoing a .values
 
--- "A call went through if it got no refusal number; Partly counts."
 unfoldable pub went-through : Answer → Bool
-went-through (Refused n) = false
-went-through Done = true
-went-through (Said v) = true
-went-through Yes = true
-went-through No = true
-went-through Begun = true
-went-through Already = true
-went-through (Dumped n) = true
-went-through (Whole n) = true
-went-through (Partly n) = true
-went-through NoFloor = true
-went-through (FloorAt f) = true
-went-through (SweptTo b ms) = true
-went-through (Entries n) = true
-went-through (Totals e h u x) = true
+unfolding outgoing
+went-through a = outgoing a .through
+
+unfoldable pub partly : Answer → Bool
+unfolding outgoing
+partly a = outgoing a .partly
 
 -- a draw's answer, in the order in which the rules are tried
 unfoldable pub draw-number : Draw → ℕ
@@ -104,5 +98,5 @@ draw-number Pairs = 7
 
 -- the rules of this file, for a theorem that computes
 unfoldable pub compute-codes : ℕ
-unfolding start-of verdict-number answer-number answer-values went-through draw-number
+unfolding start-of verdict-number outgoing answer-number answer-values went-through partly draw-number
 compute-codes = 0

@@ -30,7 +30,7 @@ use Rattle.model.specs.Book.{Place, Book, entries, place-units, places-o
 use Rattle.model.specs.Register.{Register, generation-at, sweep}
 use Rattle.model.specs.Judge.{Ask, bucket-of}
 use Rattle.model.specs.Words.{State}
-use Rattle.model.specs.Calls.{Asking, judged, taken, taken-batch, Ticket, Call, Open, On, Expire, SetLimits, Close, HeldBy, ClassTotals, ask-of, register-at, opened, step, reply, after}
+use Rattle.model.specs.Calls.{Asking, judged, taken, taken-batch, Ticket, Call, Open, On, Kind, Opens, OnOne, Sets, Other, kind, ask-of, register-at, opened, step, reply, after}
 use Rattle.model.specs.View.{view, Given, answered, left-by, words-after}
 use Rattle.model.specs.Codes.{went-through}
 
@@ -47,14 +47,15 @@ unfoldable pub same-limits : Limits → Limits → Bool
 same-limits l m =
     eqb (l .feeder) (m .feeder) && (eqb (l .feeders) (m .feeders) && (eqb (l .peer) (m .peer) && (eqb (l .peers) (m .peers) && eqb (l .relay) (m .relay))))
 
+unfoldable pub kind-stays : Kind → Limits → Bool
+kind-stays (Opens limits starts) l = true
+kind-stays (OnOne r d) l = true
+kind-stays (Sets limits) l = same-limits (limits-of limits) l
+kind-stays Other l = true
+
 unfoldable pub limits-stay : Call → Limits → Bool
-limits-stay (Open limits starts) l = true
-limits-stay (On r d) l = true
-limits-stay (Expire ms) l = true
-limits-stay (SetLimits limits) l = same-limits (limits-of limits) l
-limits-stay Close l = true
-limits-stay (HeldBy kind number) l = true
-limits-stay (ClassTotals c) l = true
+unfolding kind kind-stays
+limits-stay call l = kind-stays (kind call) l
 
 -- one more call went through
 abbrev pub and-then : Call → Option Since → Option Since
@@ -65,14 +66,15 @@ and-then call (some x) = some (record {
   unchanged = x .unchanged && limits-stay call (x .state .book .limits);
 })
 
+unfoldable pub gone-by : Settings → Kind → Call → Option Since → Option Since
+gone-by s (Opens limits starts) call k = some (record { settings = s; state = opened s limits starts; unchanged = true })
+gone-by s (OnOne r d) call k = and-then call k
+gone-by s (Sets limits) call k = and-then call k
+gone-by s Other call k = and-then call k
+
 unfoldable pub gone-through : Settings → Call → Option Since → Option Since
-gone-through s (Open limits starts) k = some (record { settings = s; state = opened s limits starts; unchanged = true })
-gone-through s (On r d) k = and-then (On r d) k
-gone-through s (Expire ms) k = and-then (Expire ms) k
-gone-through s (SetLimits limits) k = and-then (SetLimits limits) k
-gone-through s Close k = and-then Close k
-gone-through s (HeldBy kind number) k = and-then (HeldBy kind number) k
-gone-through s (ClassTotals c) k = and-then (ClassTotals c) k
+unfolding kind gone-by
+gone-through s call k = gone-by s (kind call) call k
 
 unfoldable pub heard : Given → Answer → Option Since → Option Since
 heard g a k = cond (went-through a) (gone-through (settings-of (g .settings)) (g .call) k) k
@@ -152,5 +154,5 @@ SharesKept start calls =
 
 -- the rules of this file, for a theorem that computes
 unfoldable pub compute-equal-part : ℕ
-unfolding same-limits limits-stay gone-through heard words-after since-opening met taken-by-another answer-due
+unfolding same-limits kind-stays limits-stay gone-by gone-through heard words-after since-opening met taken-by-another answer-due
 compute-equal-part = 0

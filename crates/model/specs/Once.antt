@@ -13,12 +13,12 @@ use mathlib.Core.Option.{Option, none, some}
 use lib.Dec.{eqb}
 use Rattle.model.specs.declared.Verdict.the-variants.{New}
 use Rattle.model.specs.declared.Answer.{Answer}
-use Rattle.model.specs.declared.Answer.the-variants.{Refused, Done, Said, Yes, No, Begun, Already, Dumped, Whole, Partly, NoFloor, FloorAt, SweptTo, Entries, Totals}
+use Rattle.model.specs.declared.Answer.the-variants.{Said}
 use Rattle.model.specs.Settings.{settings-of}
 use Rattle.model.specs.Generation.{as-read}
-use Rattle.model.specs.Calls.{Manner, judged, judged-batch, taken, taken-batch, Asking, Deed, Ticket, ContainsHash, Begin, Sweep, DumpTo, Restore, Resume, Floor, Pending, SweptBucket, Call, Open, On, Expire, SetLimits, Close, HeldBy, ClassTotals, register-at, held-in}
+use Rattle.model.specs.Calls.{Asking, Call, Sort, Asks, Takes, Restores, Resumes, Plain, Kind, Opens, OnOne, Sets, Other, kind, register-at, held-in}
 use Rattle.model.specs.View.{Given, answered, left-by, words-after}
-use Rattle.model.specs.Codes.{went-through}
+use Rattle.model.specs.Codes.{went-through, partly}
 use Rattle.model.specs.Soundness.{Vetted}
 
 -- a ticket on a register; the fingerprint as it is read
@@ -27,87 +27,51 @@ pub record Strike : Type 0 where
   pub print : ℕ
   pub stamp : ℕ
 
--- ---- calls, sorted once
-pub data Kind : Type 0 where
-  -- judge and judge_batch; take and take_batch
-  Asks Takes : Strike → Kind
-  -- an opening; a restore and a resume on a register
-  Opens : Kind
-  Restores Resumes : ℕ → Kind
-  -- any other
-  Other : Kind
-
 abbrev pub strike-of : ℕ → Asking → Strike
 strike-of r a = record { register = r; print = as-read (a .fp); stamp = a .stamp }
 
-unfoldable pub manner-kind : Manner → Strike → Kind
-manner-kind judged t = Asks t
-manner-kind judged-batch t = Asks t
-manner-kind taken t = Takes t
-manner-kind taken-batch t = Takes t
-
-unfoldable pub deed-kind : ℕ → Deed → Kind
-deed-kind r (Ticket m a) = manner-kind m (strike-of r a)
-deed-kind r (ContainsHash fp) = Other
-deed-kind r (Begin number) = Other
-deed-kind r (Sweep ms) = Other
-deed-kind r (DumpTo out) = Other
-deed-kind r (Restore bytes) = Restores r
-deed-kind r (Resume bytes flag floor) = Resumes r
-deed-kind r Floor = Other
-deed-kind r Pending = Other
-deed-kind r SweptBucket = Other
-
-unfoldable pub kind : Call → Kind
-kind (Open limits starts) = Opens
-kind (On r d) = deed-kind r d
-kind (Expire ms) = Other
-kind (SetLimits limits) = Other
-kind Close = Other
-kind (HeldBy k number) = Other
-kind (ClassTotals c) = Other
+-- ---- what a call is about, by its kind
+unfoldable pub sort-asks : ℕ → Sort → Option Strike
+sort-asks r (Asks a) = some (strike-of r a)
+sort-asks r (Takes a) = some (strike-of r a)
+sort-asks r Restores = none
+sort-asks r Resumes = none
+sort-asks r Plain = none
 
 unfoldable pub asks-about : Kind → Option Strike
-asks-about (Asks t) = some t
-asks-about (Takes t) = some t
-asks-about Opens = none
-asks-about (Restores r) = none
-asks-about (Resumes r) = none
+unfolding sort-asks
+asks-about (Opens limits starts) = none
+asks-about (OnOne r d) = sort-asks r d
+asks-about (Sets limits) = none
 asks-about Other = none
 
+unfoldable pub sort-takes : ℕ → Sort → Option Strike
+sort-takes r (Asks a) = none
+sort-takes r (Takes a) = some (strike-of r a)
+sort-takes r Restores = none
+sort-takes r Resumes = none
+sort-takes r Plain = none
+
 unfoldable pub takes : Kind → Option Strike
-takes (Asks t) = none
-takes (Takes t) = some t
-takes Opens = none
-takes (Restores r) = none
-takes (Resumes r) = none
+unfolding sort-takes
+takes (Opens limits starts) = none
+takes (OnOne r d) = sort-takes r d
+takes (Sets limits) = none
 takes Other = none
 
--- a restore that came out Partly: some generation failed, and what its bucket held has gone
-unfoldable pub partly : Answer → Bool
-partly (Refused n) = false
-partly Done = false
-partly (Said v) = false
-partly Yes = false
-partly No = false
-partly Begun = false
-partly Already = false
-partly (Dumped n) = false
-partly (Whole n) = false
-partly (Partly n) = true
-partly NoFloor = false
-partly (FloorAt f) = false
-partly (SweptTo b ms) = false
-partly (Entries n) = false
-partly (Totals e h u x) = false
+-- what makes a register afresh, by its answer
+unfoldable pub renews : Sort → Answer → Bool
+renews (Asks t) a = false
+renews (Takes t) a = false
+renews Restores a = partly a
+renews Resumes a = went-through a
+renews Plain a = false
 
--- what makes register r afresh, by its answer
 unfoldable pub remakes : ℕ → Kind → Answer → Bool
-remakes r (Asks t) a = false
-remakes r (Takes t) a = false
-remakes r Opens a = went-through a
-remakes r (Restores q) a = eqb r q && partly a
-remakes r (Resumes q) a = eqb r q && went-through a
+unfolding renews
+remakes r (Opens limits starts) a = went-through a
+remakes r (OnOne q d) a = eqb r q && renews d a
+remakes r (Sets limits) a = false
 remakes r Other a = false
 
 -- ---- lists of calls
@@ -209,5 +173,5 @@ NoTicketTwiceAmong = (ws : List ℕ) (es : List Event) (r : ℕ) → AllAside r 
 
 -- the definitions of this file, for a theorem that computes
 unfoldable pub compute-once : ℕ
-unfolding words-after manner-kind deed-kind kind asks-about takes partly remakes remade-among moments left-by-event event-moments all-moments
+unfolding words-after sort-asks asks-about sort-takes takes renews remakes remade-among moments left-by-event event-moments all-moments
 compute-once = 0

@@ -31,7 +31,7 @@ use Rattle.model.specs.Generation.{Generation, empty, held, among}
 use Rattle.model.specs.Book.{Pair, Place, Book, second-of, together, units, place-units, entries-of, pairs-of, place-free, add-pair, places-of}
 use Rattle.model.specs.Register.{Ring, Register, started}
 use Rattle.model.specs.Words.{State}
-use Rattle.model.specs.Calls.{Call, Open, On, Expire, SetLimits, Close, HeldBy, ClassTotals, DumpTo, Restore, register-at, settings-words-fit, reply, after, output-after}
+use Rattle.model.specs.Calls.{Call, Open, On, DumpTo, Restore, Kind, Opens, OnOne, Sets, Other, kind, register-at, settings-words-fit, reply, after, output-after}
 use Rattle.model.specs.View.{kept-settings, view, Given, words-after}
 use Rattle.model.specs.Codes.{went-through}
 
@@ -121,14 +121,15 @@ RoundTrip =
     → (length (written st ws r out n) ≡ n) × Returns (register-at r t) (written st ws r out n) st₂ ws₂ q (written st ws r out n ++ more)
 
 -- ---- "untouched since its opening Empty": no call since then is an opening, or on that register
+unfoldable pub reaches : ℕ → Kind → Bool
+reaches q (Opens limits starts) = true
+reaches q (OnOne r d) = eqb q r
+reaches q (Sets limits) = false
+reaches q Other = false
+
 unfoldable pub touches : ℕ → Call → Bool
-touches q (Open limits starts) = true
-touches q (On r d) = eqb q r
-touches q (Expire ms) = false
-touches q (SetLimits limits) = false
-touches q Close = false
-touches q (HeldBy kind number) = false
-touches q (ClassTotals c) = false
+unfolding kind reaches
+touches q call = reaches q (kind call)
 
 unfoldable pub none-touches : ℕ → List Given → Bool
 none-touches q [] = true

@@ -25,7 +25,8 @@ const MOST: u64 = 1_000_000;
 // The most entries of a place, and of a class.
 pub const MOST_ENTRIES: u64 = 2_000_000;
 
-fn no_usable() -> Usable
+// Settings of no register.
+pub fn no_usable() -> Usable
     ensures { λ r. ⌜ r ≡ no-settings ⌝ }
 {
     let none = Window {

@@ -1,8 +1,11 @@
 pub mod Through
 pub mod Admitting
+pub mod Entering
 pub mod Placed
 pub mod OnRegister
+pub mod Deeds
 pub mod OnWhole
+pub mod Runs
 pub mod OnClass
 pub mod Opening
 pub mod OnDump

@@ -1,74 +1,115 @@
 -- A call that reads one class's share book.
 use Prim.Native.Nat.{ℕ, _+_, _-_, _≤_}
 use native.Mathlib.Omega.{arith}
-use mathlib.Core.Path.{_≡_, sym, _∙_, subst}
-use mathlib.Core.Bool.{true}
+use mathlib.Core.Path.{_≡_, refl, sym, _∙_, ap, subst}
+use mathlib.Core.Bool.{Bool}
 use mathlib.Core.List.{List}
 use lib.ListN.{length}
 use borrow.Rule.Slice.PartMut.{midOf, mid-len}
 use Rattle.model.specs.declared.Answer.{Answer}
-use Rattle.model.specs.declared.Answer.the-variants.{Refused}
+use Rattle.model.specs.declared.Answer.the-variants.{Refused, Entries}
+use Rattle.model.specs.declared.Answer.the-variants.{Totals as Answered}
 use Rattle.model.specs.declared.Class.{Class}
+use Rattle.model.specs.declared.Deliverer.{Deliverer}
 use Rattle.model.specs.declared.Shares.{Shares}
+use Rattle.book.specs.declared.totals.Totals.{Totals}
 use Rattle.runs.proofs.Turns.{part-is}
 use Rattle.model.specs.Settings.{settings-of}
-use Rattle.model.specs.Class.{pick}
-use Rattle.model.specs.Book.{Held}
+use Rattle.model.specs.Class.{pick, class-at, class-of, class-fits, deliverer-fits, deliverer-of}
+use Rattle.model.specs.Book.{Held, entries-of}
 use Rattle.model.specs.BookWords.{class-form}
 use Rattle.model.specs.Words.{State, class-start}
-use Rattle.model.specs.Calls.{Call, settings-words-fit, codes-fit, step, refused, reply, held-in}
+use Rattle.model.specs.Calls.{Call, HeldBy, ClassTotals, codes-fit, class-totals, step, reply, held-in, is-open, no-such-register, late}
 use Rattle.model.proofs.Parts.{class-part}
 use Rattle.model.proofs.Bounds.{fit-shares}
+use Rattle.book.specs.Sums.{totals-of}
 use Rattle.book.specs.ClassRules.{ClassIs, ClassReads}
 use Rattle.book.proofs.Finding.{class-is}
-use Rattle.strikes.specs.declared.Span.{Span}
+use Rattle.strikes.specs.declared.ClassSpan.{ClassSpan}
 use Rattle.strikes.specs.Admitted.{vets}
-use Rattle.strikes.specs.Places.{SpanAt}
-use Rattle.strikes.proofs.Through.{Entered, lent, past-words, lent-part, read-part}
-use Rattle.strikes.proofs.Admitting.{OnBook, admitted-book, vets-fit}
-use Rattle.strikes.proofs.OnWhole.{book-refused}
+use Rattle.strikes.specs.Entries.{ClassAt, AtClass}
+use Rattle.strikes.proofs.Through.{Entered, lent, past-words, lent-part, seen-part, replied, refused-reply}
+use Rattle.strikes.proofs.Admitting.{OnBook, vets-pass, book-early, book-never}
 
-module _ (st ws : List ℕ) (call : Call) (on : OnBook call) (n : ℕ) (e : n ≡ vets st ws (codes-fit (settings-of st) call)) where
-  pub read-refused-book : (n ≡ 0 → ⊥) → Refused n ≡ reply st ws call
-  read-refused-book h = book-refused st ws call on n e h .answer
+-- the class's words
+abbrev pub class-of-words : ClassSpan → List ℕ → List ℕ
+class-of-words p ws = midOf (p .start) (p .end - p .start) ws
 
-  module _ (z : n ≡ 0) where
-    reads-in : Entered (settings-of st) ws × (refused st ws call ≡ 0)
-    reads-in = admitted-book st ws call on (sym e ∙ z)
+holds : (kind number : ℕ) → OnBook (HeldBy kind number)
+unfolding is-open no-such-register late
+holds kind number = record { shut = refl; unnumbered = λ s. refl; never = λ s t. refl }
 
-    pub settings-there : settings-words-fit st ≡ true
-    settings-there = vets-fit st ws (codes-fit (settings-of st) call) (sym e ∙ z)
+totals : (c : ℕ) → OnBook (ClassTotals c)
+unfolding is-open no-such-register late
+totals c = record { shut = refl; unnumbered = λ s. refl; never = λ s t. refl }
 
-    module _ (c : Class) (p : Span) (at : SpanAt (settings-of st) c p) where
-      pub span-within : p .end ≤ length ws
-      span-within = let l = reads-in .0 .long in let w = at .within in omega arith
+module _ {st ws : List ℕ} {codes : Bool} {c : Class} {p : ClassSpan} (at : AtClass st ws codes c p) where
+  class-refused : (p .refusal ≡ 0 → ⊥) → (call : Call) → OnBook call → codes ≡ codes-fit (settings-of st) call → Refused (p .refusal) ≡ reply st ws call
+  class-refused h call on same = refused-reply st ws call _ (book-early st ws codes call on same _ (at .refusal) h) h .0
 
-      starts : p .start ≡ class-start (settings-of st) c
-      starts = at .start
+  pub held-refused : (p .refusal ≡ 0 → ⊥) → (kind number : ℕ) → codes ≡ deliverer-fits kind number → Refused (p .refusal) ≡ reply st ws (HeldBy kind number)
+  unfolding codes-fit
+  held-refused h kind number same = class-refused h _ (holds kind number) same
 
-      ends : p .end ≡ p .start + class-form (settings-of st .shares) c .wide
-      ends = let a = at .end in omega arith
+  pub totals-refused : (p .refusal ≡ 0 → ⊥) → (n : ℕ) → codes ≡ class-fits n → Refused (p .refusal) ≡ reply st ws (ClassTotals n)
+  unfolding codes-fit
+  totals-refused h n same = class-refused h _ (totals n) same
 
-      pub class-lies : ClassIs (p .shares) c (midOf (p .start) (p .end - p .start) ws)
-      class-lies =
-          let s = settings-of st in
-          let k = length (past-words s ws) in
-          let h : p .start ≡ 0 + class-start s c = let a = at .start in omega arith in
-          let is = part-is (lent-part s k (class-part s c) .lies) (p .start) (p .end) h ends (record { value = lent s ws; ok = reads-in .0 .ok; words = reads-in .0 .words }) in
-          subst (λ (b : Shares). ClassIs b c (midOf (p .start) (p .end - p .start) ws)) (sym (at .shares))
-          (class-is (s .shares) c (midOf (p .start) (p .end - p .start) ws) (fit-shares s (reads-in .0 .fit)) is)
+  module _ (z : p .refusal ≡ 0) where
+    passes : vets st ws codes ≡ 0
+    passes = sym (at .refusal) ∙ z
 
-      -- the four totals are there
-      pub totals-there : 4 ≤ length (midOf (p .start) (p .end - p .start) ws)
-      totals-there =
-          let a = at .end in
-          let l : length (midOf (p .start) (p .end - p .start) ws) ≡ p .end - p .start = mid-len (p .start) (p .end) ws span-within in
-          omega arith
+    may-read : Entered (settings-of st) ws
+    may-read = vets-pass st ws codes passes .may
 
-      pub told-class : {R : Type 0} (answer : R → Answer) (out : Shares → Held → R)
-          → ((t : State) → step (settings-of st) call t .answer ≡ answer (out (settings-of st .shares) (pick c (t .book .classes))))
-          → (v : R) → ClassReads (p .shares) c (out (p .shares)) (midOf (p .start) (p .end - p .start) ws) v → answer v ≡ reply st ws call
-      told-class answer out says v reads =
-          let s = settings-of st in
-          let t = subst (λ (b : Shares). ClassReads b c (out b) (midOf (p .start) (p .end - p .start) ws) v) (at .shares) reads in
-          read-part st ws call (reads-in .1) (λ t. pick c (t .book .classes)) (reads-in .0) (class-part s c) (p .start) (p .end) starts ends t answer (says (held-in s ws))
+    place : ClassAt st c p
+    place = at .place z
+
+    ends : p .end ≡ p .start + class-form (settings-of st .shares) c .wide
+    ends = let a = place .end in omega arith
+
+    class-lies : ClassIs (p .shares) c (class-of-words p ws)
+    class-lies =
+        let s = settings-of st in
+        let k = length (past-words s ws) in
+        let h : p .start ≡ 0 + class-start s c = let a = place .start in omega arith in
+        let is = part-is (lent-part s k (class-part s c) .lies) (p .start) (p .end) h ends (record { value = lent s ws; ok = may-read .ok; words = may-read .words }) in
+        subst (λ (b : Shares). ClassIs b c (class-of-words p ws)) (sym (place .shares))
+        (class-is (s .shares) c (class-of-words p ws) (fit-shares s (may-read .fit)) is)
+
+    -- the four totals are there
+    pub totals-there : 4 ≤ length (class-of-words p ws)
+    totals-there =
+        let a = place .end in
+        let l : length (class-of-words p ws) ≡ p .end - p .start = mid-len (p .start) (p .end) ws (at .within) in
+        omega arith
+
+    told-class : (call : Call) → OnBook call → codes ≡ codes-fit (settings-of st) call → {R : Type 0} {out : Held → R} {v : R} (answer : R → Answer)
+        → (p .shares ≡ settings-of st .shares → (t : State) → step (settings-of st) call t .answer ≡ answer (out (pick c (t .book .classes))))
+        → ClassReads (p .shares) c out (class-of-words p ws) v → answer v ≡ reply st ws call
+    told-class call on same {out} {v} answer says reads =
+        let s = settings-of st in
+        let b = place .shares in
+        let t = subst (λ (x : Shares). ClassReads x c out (class-of-words p ws) v) b reads in
+        ap answer (seen-part s ws may-read (λ t. pick c (t .book .classes)) (class-part s c) (p .start) (p .end) (place .start) ends t)
+        ∙ sym (says b (held-in s ws)) ∙ sym (replied st ws call (book-never st ws codes call on same passes))
+
+-- ---- a deliverer's entries, and a class's totals
+module _ {st ws : List ℕ} {codes : Bool} {c : Class} {p : ClassSpan} (at : AtClass st ws codes c p) (z : p .refusal ≡ 0) (who : Deliverer) (its : c ≡ class-of who) where
+  deliverer-at : AtClass st ws codes (class-of who) p
+  deliverer-at = rw its at at
+
+  pub deliverer-lies : ClassIs (p .shares) (class-of who) (class-of-words p ws)
+  deliverer-lies = class-lies deliverer-at z
+
+  pub entries-told : (kind number : ℕ) → codes ≡ deliverer-fits kind number → who ≡ deliverer-of kind number
+      → {v : ℕ} → ClassReads (p .shares) (class-of who) (λ h. entries-of who (h .places)) (class-of-words p ws) v → Entries v ≡ reply st ws (HeldBy kind number)
+  unfolding codes-fit step
+  entries-told kind number same is reads = told-class deliverer-at z (HeldBy kind number) (holds kind number) same Entries (λ b t. rw (← is)) reads
+
+pub totals-told : {st ws : List ℕ} {codes : Bool} {c : Class} {p : ClassSpan} → AtClass st ws codes c p → p .refusal ≡ 0 → (n : ℕ) → codes ≡ class-fits n → c ≡ class-at n
+    → {v : Totals} → ((b : Shares) (k : Class) → ClassReads b k (totals-of b) (class-of-words p ws) v)
+    → Answered (v .entries) (v .holders) (v .units) (v .expired) ≡ reply st ws (ClassTotals n)
+unfolding codes-fit step class-totals
+totals-told at z n same is reads =
+    told-class at z (ClassTotals n) (totals n) same (λ (v : Totals). Answered (v .entries) (v .holders) (v .units) (v .expired)) (λ b t. rw (b, ← is)) (reads _ _)

@@ -1,30 +1,30 @@
 -- Calls on all needed words, `words[0..need]`, and on the front, `words[0..20]`.
 use Prim.Native.Nat.{ℕ, _+_, _-_, _<_, _≤_}
 use native.Mathlib.Omega.{arith}
-use mathlib.Core.Path.{_≡_, refl, sym, _∙_, ap}
-use mathlib.Core.Bool.{true}
+use mathlib.Core.Path.{_≡_, refl, sym, _∙_, ap, subst}
+use mathlib.Core.Bool.{Bool, true}
 use mathlib.Core.List.{List, [], _++_, append-nil}
-use lib.Dec.{eqb}
 use lib.ListN.{length, take, drop, drop-of-length-le}
 use lib.Seq.{take-all, length-take-le}
-use borrow.Author.Tests.{eqb-true}
 use Rattle.model.specs.declared.Answer.{Answer}
 use Rattle.model.specs.declared.Answer.the-variants.{Refused}
 use Rattle.model.specs.declared.Settings.{Settings}
 use Rattle.runs.specs.Turns.{Turns}
-use Rattle.runs.proofs.Cases.{both-true}
 use Rattle.runs.proofs.Parts.{Part}
 use Rattle.runs.proofs.Turns.{part-is}
-use Rattle.model.specs.Settings.{settings-of, words-needed, limits-width}
+use Rattle.model.specs.Settings.{settings-of, words-needed}
 use Rattle.model.specs.Words.{State, Front, FrontOk, encode-front, state-form}
-use Rattle.model.specs.Calls.{Deed, Call, On, never-late, late-deed, deed-fits, limits-words-fit, done-on, step, refused, first-met, register-at, held-in, codes-fit}
+use Rattle.model.specs.Calls.{Deed, Call, On, late-deed, deed-fits, done-on, step, refused, register-at, held-in, codes-fit}
 use Rattle.model.proofs.Words.{state-exact, state-wide}
 use Rattle.model.proofs.Parts.{front-part, front-of, with-front}
 use Rattle.taking.specs.Words.{RunWords, StateTurns}
-use Rattle.strikes.specs.Admitted.{vets, admits}
+use Rattle.vet.specs.declared.Entry.{Entry}
+use Rattle.vet.specs.Entries.{EntersWithin}
+use Rattle.strikes.specs.Admitted.{vets}
 use Rattle.strikes.specs.Calls.{Told}
+use Rattle.strikes.specs.Entries.{ByBook, ByRegister}
 use Rattle.strikes.proofs.Through.{Entered, lent, past-words, lent-part, refused-reply, through-part}
-use Rattle.strikes.proofs.Admitting.{late-refusals, Admitted, admitted, OnBook, refused-book, admitted-book, vets-codes}
+use Rattle.strikes.proofs.Admitting.{late-refusals, vets-pass, admits-pass, refused-early, refused-late, OnBook, book-early, book-never}
 
 -- all of it is a part of itself
 whole-part : (s : Settings) → Part (state-form s) (state-form s) 0 (λ t. t) (λ t u. u)
@@ -40,8 +40,15 @@ whole-part s = record {
       ap (λ (l : List ℕ). state-form s .enc u ++ l) d ∙ append-nil (state-form s .enc u);
 }
 
+-- the needed words, and the words with others in their place
+abbrev pub run-of : Entry → List ℕ → List ℕ
+run-of e ws = take (e .need - 0) ws
+
+abbrev pub put-run : Entry → List ℕ → List ℕ → List ℕ
+put-run e ws last = last ++ drop (e .need - 0) ws
+
 -- the needed words are those of a well-formed state
-pub run-lies : (s : Settings) (ws : List ℕ) (need : ℕ) → need ≡ words-needed s → Entered s ws → RunWords s (take (need - 0) ws)
+run-lies : (s : Settings) (ws : List ℕ) (need : ℕ) → need ≡ words-needed s → Entered s ws → RunWords s (take (need - 0) ws)
 unfolding words-needed
 run-lies s ws need e n =
     let k = length (past-words s ws) in
@@ -53,74 +60,91 @@ run-lies s ws need e n =
     let long : length (take (need - 0) ws) ≡ words-needed s = length-take-le (need - 0) ws (omega arith) ∙ d in
     record { fit = n .fit; long = long; least = omega (arith, long); is = is }
 
--- ---- a call on a register that works on all needed words
-module _ (st ws : List ℕ) (r : ℕ) (deed : Deed) (n : ℕ) (e : n ≡ admits st ws (deed-fits deed) r) (z : n ≡ 0)
-    (never : (t : State) → late-deed (register-at r t) deed ≡ never-late) (need : ℕ) (is : need ≡ words-needed (settings-of st)) where
-  in-all : Admitted st ws r deed
-  in-all = admitted st ws r deed (sym e ∙ z)
+-- ---- a call that nothing refuses, carried by what a function does to all needed words
+module _ {st ws : List ℕ} {v : ℕ} {e : Entry} (n : EntersWithin st ws v e) (z : e .refusal ≡ 0) (may : Entered (settings-of st) ws) where
+  module _ {s : Settings} (read : s ≡ settings-of st) where
+    lies-read : RunWords s (run-of e ws)
+    lies-read = rw read (run-lies (settings-of st) ws (e .need) (n .ready z .need) may)
 
-  pub whole-within : need ≤ length ws
-  whole-within = let l = in-all .may .long in omega arith
+    carried : (call : Call) → refused st ws call ≡ 0 → {R : Type 0} {f : State → State} {out : State → R} {last : List ℕ} {x : R} (answer : R → Answer)
+        → ((t : State) → step s call t .answer ≡ answer (out t)) → ((t : State) → step s call t .state ≡ f t)
+        → StateTurns s f out (run-of e ws) last x → Told st ws call (answer x) (put-run e ws last)
+    carried call none {f} {out} {last} {x} answer says leaves turn =
+        let own = settings-of st in
+        let w = state-wide own (may .fit) in
+        let d = n .ready z .need in
+        let t = subst (λ (y : Settings). StateTurns y f out (run-of e ws) last x) read turn in
+        let a = subst (λ (y : Settings). step y call (held-in own ws) .answer ≡ answer (out (held-in own ws))) read (says (held-in own ws)) in
+        let b = subst (λ (y : Settings). step y call (held-in own ws) .state ≡ f (held-in own ws)) read (leaves (held-in own ws)) in
+        let q = through-part st ws call none may (whole-part own) 0 (e .need) refl (omega arith) t answer a b in
+        record { answer = q .0; words = q .1 }
 
-  pub whole-lies : RunWords (settings-of st) (take (need - 0) ws) × (r < settings-of st .registers)
-  whole-lies = (run-lies (settings-of st) ws need is (in-all .may), in-all .there)
+-- ---- on a register
+module _ {st ws : List ℕ} {codes : Bool} {r : ℕ} {e : Entry} (by : ByRegister st ws codes r e) where
+  pub run-refused : (e .refusal ≡ 0 → ⊥) → {deed : Deed} → codes ≡ deed-fits deed → Told st ws (On r deed) (Refused (e .refusal)) ws
+  run-refused h {deed} same =
+      let q = refused-reply st ws (On r deed) _ (refused-early st ws codes r deed same _ (by .enters .refusal) h) h in record { answer = q .0; words = q .1 }
 
-  pub told-whole : {R : Type 0} (answer : R → Answer) (f : State → State) (out : State → R)
-      → ((t : State) → done-on (settings-of st) r deed t .answer ≡ answer (out t)) → ((t : State) → done-on (settings-of st) r deed t .state ≡ f t)
-      → (last : List ℕ) (v : R) → StateTurns (settings-of st) f out (take (need - 0) ws) last v
-      → Told st ws (On r deed) (answer v) (last ++ drop (need - 0) ws)
-  unfolding step late-refusals first-met
-  told-whole answer f out says leaves last v turn =
-      let s = settings-of st in
-      let none : refused st ws (On r deed) ≡ 0 = in-all .left ∙ ap late-refusals (never (held-in s ws)) in
-      let w = state-wide s (in-all .may .fit) in
-      let q = through-part st ws (On r deed) none (in-all .may) (whole-part s) 0 need refl (omega arith) turn answer (says (held-in s ws)) (leaves (held-in s ws)) in
-      record { answer = q .0; words = q .1 }
+  module _ (z : e .refusal ≡ 0) where
+    may-run : Entered (settings-of st) ws
+    may-run = admits-pass st ws codes r (sym (by .enters .refusal) ∙ z) .0 .may
 
--- ---- a call on the book: refused, or carried by what a function does to the front
-module _ (st ws : List ℕ) (call : Call) (on : OnBook call) (n : ℕ) (e : n ≡ vets st ws (codes-fit (settings-of st) call)) where
-  pub book-refused : (n ≡ 0 → ⊥) → Told st ws call (Refused n) ws
-  book-refused h = let p = refused-reply st ws call n (refused-book st ws call on n (sym e) h) h in record { answer = p .0; words = p .1 }
+    module _ {s : Settings} (read : s ≡ settings-of st) where
+      pub run-there : RunWords s (run-of e ws)
+      run-there = lies-read (by .enters) z may-run read
 
-  module _ (z : n ≡ 0) where
-    in-book : Entered (settings-of st) ws × (refused st ws call ≡ 0)
-    in-book = admitted-book st ws call on (sym e ∙ z)
+      pub register-there : r < s .registers
+      register-there = rw read (by .there z)
+
+    module _ (deed : Deed) (same : codes ≡ deed-fits deed) where
+      pub refused-now : refused st ws (On r deed) ≡ late-refusals (late-deed (register-at r (held-in (settings-of st) ws)) deed)
+      refused-now = refused-late st ws codes r deed same (sym (by .enters .refusal) ∙ z)
+
+      -- a deed that nothing else refuses
+      pub told-whole : {s : Settings} → s ≡ settings-of st → ((t : State) → late-refusals (late-deed (register-at r t) deed) ≡ 0)
+          → {R : Type 0} {f : State → State} {out : State → R} {last : List ℕ} {v : R} (answer : R → Answer)
+          → ((t : State) → done-on s r deed t .answer ≡ answer (out t)) → ((t : State) → done-on s r deed t .state ≡ f t)
+          → StateTurns s f out (run-of e ws) last v → Told st ws (On r deed) (answer v) (put-run e ws last)
+      unfolding step
+      told-whole read never answer says leaves turn =
+          carried (by .enters) z may-run read (On r deed) (refused-now ∙ never (held-in (settings-of st) ws)) answer says leaves turn
+
+-- ---- on the book
+module _ {st ws : List ℕ} {codes : Bool} {e : Entry} (by : ByBook st ws codes e) where
+  pub book-refused : (e .refusal ≡ 0 → ⊥) → {call : Call} → OnBook call → codes ≡ codes-fit (settings-of st) call → Told st ws call (Refused (e .refusal)) ws
+  book-refused h {call} on same =
+      let q = refused-reply st ws call _ (book-early st ws codes call on same _ (by .enters .refusal) h) h in record { answer = q .0; words = q .1 }
+
+  module _ (z : e .refusal ≡ 0) where
+    passes : vets st ws codes ≡ 0
+    passes = sym (by .enters .refusal) ∙ z
+
+    may-book : Entered (settings-of st) ws
+    may-book = vets-pass st ws codes passes .may
+
+    pub codes-there : codes ≡ true
+    codes-there = vets-pass st ws codes passes .listed
+
+    pub book-there : {s : Settings} → s ≡ settings-of st → RunWords s (run-of e ws)
+    book-there read = lies-read (by .enters) z may-book read
 
     pub front-there : 20 ≤ length ws
     unfolding words-needed
-    front-there = let l = in-book .0 .long in omega arith
+    front-there = let l = may-book .long in omega arith
 
-    pub codes-there : codes-fit (settings-of st) call ≡ true
-    codes-there = vets-codes st ws (codes-fit (settings-of st) call) (sym e ∙ z)
+    module _ {call : Call} (on : OnBook call) (same : codes ≡ codes-fit (settings-of st) call) where
+      pub told-run : {s : Settings} → s ≡ settings-of st → {R : Type 0} {f : State → State} {out : State → R} {last : List ℕ} {v : R} (answer : R → Answer)
+          → ((t : State) → step s call t .answer ≡ answer (out t)) → ((t : State) → step s call t .state ≡ f t)
+          → StateTurns s f out (run-of e ws) last v → Told st ws call (answer v) (put-run e ws last)
+      told-run read answer says leaves turn = carried (by .enters) z may-book read call (book-never st ws codes call on same passes) answer says leaves turn
 
-    pub told-front : {R : Type 0} (answer : R → Answer) (f : Front → Front) (out : Front → R)
-        → ((t : State) → step (settings-of st) call t .answer ≡ answer (out (front-of t))) → ((t : State) → step (settings-of st) call t .state ≡ with-front (f (front-of t)) t)
-        → (last : List ℕ) (v : R) → Turns (encode-front (settings-of st)) FrontOk f out (take 20 ws) last v
-        → Told st ws call (answer v) (last ++ drop 20 ws)
-    told-front answer f out says leaves last v turn =
-        let s = settings-of st in
-        let q = through-part st ws call (in-book .1) (in-book .0) (front-part s) 0 20 refl refl turn answer (says (held-in s ws)) (leaves (held-in s ws)) in
-        record { answer = q .0; words = q .1 }
-
-    -- or by what one does to all needed words
-    module _ (need : ℕ) (is : need ≡ words-needed (settings-of st)) where
-      pub run-within : need ≤ length ws
-      run-within = let l = in-book .0 .long in omega arith
-
-      pub run-there : RunWords (settings-of st) (take (need - 0) ws)
-      run-there = run-lies (settings-of st) ws need is (in-book .0)
-
-      pub told-run : {R : Type 0} (answer : R → Answer) (f : State → State) (out : State → R)
-          → ((t : State) → step (settings-of st) call t .answer ≡ answer (out t)) → ((t : State) → step (settings-of st) call t .state ≡ f t)
-          → (last : List ℕ) (v : R) → StateTurns (settings-of st) f out (take (need - 0) ws) last v
-          → Told st ws call (answer v) (last ++ drop (need - 0) ws)
-      told-run answer f out says leaves last v turn =
+      -- by what a function does to the front
+      pub told-front : {R : Type 0} {f : Front → Front} {out : Front → R} {last : List ℕ} {v : R} (answer : R → Answer)
+          → ((t : State) → step (settings-of st) call t .answer ≡ answer (out (front-of t)))
+          → ((t : State) → step (settings-of st) call t .state ≡ with-front (f (front-of t)) t)
+          → ((s : Settings) → Turns (encode-front s) FrontOk f out (take 20 ws) last v) → Told st ws call (answer v) (last ++ drop 20 ws)
+      told-front answer says leaves turn =
           let s = settings-of st in
-          let w = state-wide s (in-book .0 .fit) in
-          let q = through-part st ws call (in-book .1) (in-book .0) (whole-part s) 0 need refl (omega arith) turn answer (says (held-in s ws)) (leaves (held-in s ws)) in
+          let q = through-part st ws call (book-never st ws codes call on same passes) may-book (front-part s) 0 20 refl refl (turn s)
+          answer (says (held-in s ws)) (leaves (held-in s ws)) in
           record { answer = q .0; words = q .1 }
-
--- limits that are handed in whole
-pub limits-long : (ls : List ℕ) → limits-words-fit ls ≡ true → length ls ≡ 5
-unfolding limits-words-fit
-limits-long ls t = eqb-true (length ls) 5 (both-true (eqb (length ls) limits-width) _ t .0)

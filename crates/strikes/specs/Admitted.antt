@@ -4,9 +4,11 @@ use mathlib.Core.Bool.{Bool, not, _&&_}
 use mathlib.Core.List.{List, [], _∷_}
 use lib.Dec.{leb, ltb}
 use lib.ListN.{length}
+use Rattle.model.specs.declared.Usable.{Usable}
 use Rattle.model.specs.Settings.{settings-of, words-needed}
 use Rattle.model.specs.Register.{Register}
 use Rattle.model.specs.Dump.{dump-bytes}
+use Rattle.register.specs.Words.{RegisterReads}
 use Rattle.model.specs.Calls.{refusal, first-met, settings-words-fit, limits-words-fit, starts-fit, too-short, sound}
 
 -- 1, 2 and 3, for a call whose own codes are listed or not
@@ -33,3 +35,6 @@ six-then-five pending short = first-met (refusal 6 pending ∷ refusal 5 short �
 -- 6 and 5 of a dump, into an output of so many bytes
 unfoldable pub dump-refusal : ℕ → Register → ℕ
 dump-refusal room reg = six-then-five (reg .pending) (ltb room (length (dump-bytes reg)))
+
+pub record DumpLate (u : Usable) (room : ℕ) (ws : List ℕ) (n : ℕ) : Type 0 where
+  pub reads : RegisterReads u (dump-refusal room) ws n

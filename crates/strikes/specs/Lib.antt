@@ -1,3 +1,3 @@
 pub mod Calls
 pub mod Admitted
-pub mod Places
+pub mod Entries

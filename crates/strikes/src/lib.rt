@@ -10,73 +10,134 @@ use numbers::bounds;
 use numbers::codes;
 use numbers::layout;
 use numbers::starts;
-use numbers::starts::Place;
 use register::Ask;
+use vet::Entry;
 ghost use mathlib.Core.Path.{_≡_};
-ghost use mathlib.Core.Bool.{true};
-ghost use Prim.Native.Nat.{_+_, _<_};
-ghost use Rattle.model.specs.Settings.{settings-of};
-ghost use Rattle.model.specs.Calls.{settings-words-fit, ask-of as ask-read, judged, judged-batch, taken, taken-batch, On, Open, Close, Expire, SetLimits, HeldBy, ClassTotals, Begin, Sweep, ContainsHash, DumpTo, Restore, Resume, Floor, Pending, SweptBucket, yes-no, reply};
-ghost use Rattle.numbers.specs.Places.{RegisterAt};
-ghost use Rattle.register.specs.Rules.{asked-by};
-ghost use Rattle.register.specs.Words.{RegisterWords, RegisterReads};
-ghost use Rattle.strikes.specs.Admitted.{vets, admits, opens, six-then-five, dump-refusal};
+ghost use Prim.Native.Nat.{_*_, _≤_};
+ghost use lib.ListN.{length};
+ghost use Rattle.model.specs.Calls.{judged, judged-batch, taken, taken-batch, On, Open, Close, Expire, SetLimits, HeldBy, ClassTotals, Begin, Sweep, ContainsHash, DumpTo, Restore, Resume, Floor, Pending, SweptBucket, yes-no, reply};
+ghost use Rattle.register.specs.Words.{RegisterWords};
+ghost use Rattle.strikes.specs.Admitted.{six-then-five, DumpLate};
 ghost use Rattle.strikes.specs.Calls.{asking, Told, ToldBytes, restore-answer};
-ghost use Rattle.strikes.specs.Places.{SpanAt};
+ghost use Rattle.strikes.specs.Entries.{ByBook, ByRegister, ByOpening, AtRegister, AtClass, Asks};
 
-// The share book's settings, and where a class's words lie.
-pub struct Span {
+// Where a call on one register finds its words: the first refusal that was met, or 0, and then the register's settings and part.
+pub struct RegisterSpan {
+    pub refusal: u64,
+    pub u: Usable,
+    pub start: usize,
+    pub end: usize,
+}
+
+// A ticket's numbers: whether its codes are listed, and what it asks.
+pub struct Ticket {
+    pub listed: bool,
+    pub ask: Ask,
+}
+
+// The same of a call that reads one class of the share book.
+pub struct ClassSpan {
+    pub refusal: u64,
     pub shares: Shares,
     pub start: usize,
     pub end: usize,
 }
 
-// Where a register below R lies, under settings that are in bounds.
-fn place_of(settings: &[u64], register: u64) -> Place
-    requires { ⌜ (settings-words-fit (now settings) ≡ true) × (register < settings-of (now settings) .registers) ⌝ }
-    ensures { λ p. ⌜ RegisterAt (settings-of (now (settings .entry))) register p ⌝ }
-{
-    let s = bounds::settings_of(settings);
-    starts::place_of(s, register as usize)
-}
-
-// A ticket as it is asked about.
-fn ask_of(fp: u64, stamp: u64, reading: u64, flag: u64, kind: u64, number: u64) -> Ask
-    ensures { λ a. ⌜ asked-by a ≡ ask-read (record { fp = fp; stamp = stamp; ms = reading; flag = flag; kind = kind; number = number }) ⌝ }
-{
-    let who = codes::deliverer_of(kind, number);
-    Ask {
-        fp: fp,
-        stamp: stamp,
-        now: Judged(reading),
-        judging: flag == 1,
-        who: who,
-    }
-}
-
-// 0, or the first of the refusals 1, 2 and 3. `codes`: the call's own codes are listed.
-fn vetted(settings: &[u64], words: &[u64], codes: bool) -> u64
-    ensures { λ n. ⌜ n ≡ vets (now (settings .entry)) (now (words .entry)) codes ⌝ }
+// The first of the refusals 1, 2 and 3. `codes`: the call's own codes are listed.
+fn enter(settings: &[u64], words: &[u64], codes: bool) -> Entry
+    ensures { λ e. ⌜ ByBook (now (settings .entry)) (now (words .entry)) codes e ⌝ }
 {
     if !codes {
-        return 1;
+        return vet::shut(1);
     }
     vet::vet(settings, words)
 }
 
 // The same of a call on one register, and 4.
-fn admitted(settings: &[u64], words: &[u64], codes: bool, register: u64) -> u64
-    ensures { λ n. ⌜ n ≡ admits (now (settings .entry)) (now (words .entry)) codes register ⌝ }
+fn admit(settings: &[u64], words: &[u64], codes: bool, register: u64) -> Entry
+    ensures { λ e. ⌜ ByRegister (now (settings .entry)) (now (words .entry)) codes register e ⌝ }
 {
-    let n = vetted(settings, words, codes);
-    if n != 0 {
-        return n;
+    let e = enter(settings, words, codes);
+    if e.refusal != 0 {
+        return vet::shut(e.refusal);
     }
     let s = bounds::settings_of(settings);
-    if vet::no_such_register(s, register) {
-        return 4;
+    if s.registers <= register {
+        return vet::shut(4);
     }
-    0
+    e
+}
+
+// Where that call finds its register.
+fn register_span(settings: &[u64], words: &[u64], codes: bool, register: u64) -> RegisterSpan
+    ensures { λ p. ⌜ AtRegister (now (settings .entry)) (now (words .entry)) codes register p ⌝ }
+{
+    let e = admit(settings, words, codes, register);
+    if e.refusal != 0 {
+        return RegisterSpan {
+            refusal: e.refusal,
+            u: bounds::no_usable(),
+            start: 0,
+            end: 0,
+        };
+    }
+    let at = starts::place_of(bounds::settings_of(settings), register as usize);
+    let u = at.u;
+    RegisterSpan {
+        refusal: 0,
+        u: u,
+        start: at.start,
+        end: at.end,
+    }
+}
+
+// Where a call on the book finds a class.
+fn class_span(settings: &[u64], words: &[u64], codes: bool, class: Class) -> ClassSpan
+    ensures { λ p. ⌜ AtClass (now (settings .entry)) (now (words .entry)) codes class p ⌝ }
+{
+    let e = enter(settings, words, codes);
+    if e.refusal != 0 {
+        let none = Shares {
+            places: 0,
+            pairs: 0,
+            feeder: 0,
+            peer: 0,
+        };
+        return ClassSpan {
+            refusal: e.refusal,
+            shares: none,
+            start: 0,
+            end: 0,
+        };
+    }
+    let s = bounds::settings_of(settings);
+    let shares = s.shares;
+    let start = starts::class_start(s, class);
+    let width = starts::class_width(shares);
+    ClassSpan {
+        refusal: 0,
+        shares: shares,
+        start: start,
+        end: start + width,
+    }
+}
+
+// A ticket as it is handed in: whether its codes are listed, and what it asks.
+fn ticket_of(fp: u64, stamp: u64, reading: u64, flag: u64, kind: u64, number: u64) -> Ticket
+    ensures { λ t. ⌜ Asks (record { fp = fp; stamp = stamp; ms = reading; flag = flag; kind = kind; number = number }) t ⌝ }
+{
+    let listed = vet::ticket_fits(flag, kind, number);
+    let who = codes::deliverer_of(kind, number);
+    Ticket {
+        listed: listed,
+        ask: Ask {
+            fp: fp,
+            stamp: stamp,
+            now: Judged(reading),
+            judging: flag == 1,
+            who: who,
+        },
+    }
 }
 
 // What a ticket is. Nothing of it is remembered.
@@ -93,17 +154,14 @@ pub fn judge(
 ) -> Answer
     ensures { λ a. ⌜ Told (now (settings .entry)) (now (words .entry)) (asking judged register fp stamp reading flag kind number) a (now (words .exit)) ⌝ }
 {
-    let listed = vet::ticket_fits(flag, kind, number);
-    let n = admitted(settings, words, listed, register);
-    if n != 0 {
-        return Answer::Refused(n);
+    let ticket = ticket_of(fp, stamp, reading, flag, kind, number);
+    let at = register_span(settings, words, ticket.listed, register);
+    if at.refusal != 0 {
+        return Answer::Refused(at.refusal);
     }
-    let at = place_of(settings, register);
-    let ask = ask_of(fp, stamp, reading, flag, kind, number);
     let a = at.start;
     let e = at.end;
-    let verdict = register::judge(&mut words[a..e], at.u, ask);
-    Answer::Said(verdict)
+    Answer::Said(register::judge(&mut words[a..e], at.u, ticket.ask))
 }
 
 // As judge, for a batch: a Late ticket past the window's front is Ahead.
@@ -120,28 +178,24 @@ pub fn judge_batch(
 ) -> Answer
     ensures { λ a. ⌜ Told (now (settings .entry)) (now (words .entry)) (asking judged-batch register fp stamp reading flag kind number) a (now (words .exit)) ⌝ }
 {
-    let listed = vet::ticket_fits(flag, kind, number);
-    let n = admitted(settings, words, listed, register);
-    if n != 0 {
-        return Answer::Refused(n);
+    let ticket = ticket_of(fp, stamp, reading, flag, kind, number);
+    let at = register_span(settings, words, ticket.listed, register);
+    if at.refusal != 0 {
+        return Answer::Refused(at.refusal);
     }
-    let at = place_of(settings, register);
-    let ask = ask_of(fp, stamp, reading, flag, kind, number);
     let a = at.start;
     let e = at.end;
-    let verdict = register::judge_batch(&mut words[a..e], at.u, ask);
-    Answer::Said(verdict)
+    Answer::Said(register::judge_batch(&mut words[a..e], at.u, ticket.ask))
 }
 
 // Begins: a pending register's floor is raised to the host's number. Later begins answer Already.
 pub fn begin(settings: &[u64], words: &mut [u64], register: u64, number: u64) -> Answer
     ensures { λ a. ⌜ Told (now (settings .entry)) (now (words .entry)) (On register (Begin number)) a (now (words .exit)) ⌝ }
 {
-    let n = admitted(settings, words, true, register);
-    if n != 0 {
-        return Answer::Refused(n);
+    let at = register_span(settings, words, true, register);
+    if at.refusal != 0 {
+        return Answer::Refused(at.refusal);
     }
-    let at = place_of(settings, register);
     let a = at.start;
     let e = at.end;
     register::begin(&mut words[a..e], number)
@@ -151,11 +205,10 @@ pub fn begin(settings: &[u64], words: &mut [u64], register: u64, number: u64) ->
 pub fn sweep(settings: &[u64], words: &mut [u64], register: u64, reading: u64) -> Answer
     ensures { λ a. ⌜ Told (now (settings .entry)) (now (words .entry)) (On register (Sweep reading)) a (now (words .exit)) ⌝ }
 {
-    let n = admitted(settings, words, true, register);
-    if n != 0 {
-        return Answer::Refused(n);
+    let at = register_span(settings, words, true, register);
+    if at.refusal != 0 {
+        return Answer::Refused(at.refusal);
     }
-    let at = place_of(settings, register);
     let a = at.start;
     let e = at.end;
     register::sweep(&mut words[a..e], at.u, Judged(reading));
@@ -175,11 +228,10 @@ fn yes_or_no(yes: bool) -> Answer
 pub fn contains_hash(settings: &[u64], words: &[u64], register: u64, fp: u64) -> Answer
     ensures { λ a. ⌜ a ≡ reply (now (settings .entry)) (now (words .entry)) (On register (ContainsHash fp)) ⌝ }
 {
-    let n = admitted(settings, words, true, register);
-    if n != 0 {
-        return Answer::Refused(n);
+    let at = register_span(settings, words, true, register);
+    if at.refusal != 0 {
+        return Answer::Refused(at.refusal);
     }
-    let at = place_of(settings, register);
     let a = at.start;
     let e = at.end;
     yes_or_no(register::contains_hash(&words[a..e], at.u, fp))
@@ -189,11 +241,10 @@ pub fn contains_hash(settings: &[u64], words: &[u64], register: u64, fp: u64) ->
 pub fn floor(settings: &[u64], words: &[u64], register: u64) -> Answer
     ensures { λ a. ⌜ a ≡ reply (now (settings .entry)) (now (words .entry)) (On register Floor) ⌝ }
 {
-    let n = admitted(settings, words, true, register);
-    if n != 0 {
-        return Answer::Refused(n);
+    let at = register_span(settings, words, true, register);
+    if at.refusal != 0 {
+        return Answer::Refused(at.refusal);
     }
-    let at = place_of(settings, register);
     let a = at.start;
     let e = at.end;
     register::floor(&words[a..e])
@@ -203,11 +254,10 @@ pub fn floor(settings: &[u64], words: &[u64], register: u64) -> Answer
 pub fn pending(settings: &[u64], words: &[u64], register: u64) -> Answer
     ensures { λ a. ⌜ a ≡ reply (now (settings .entry)) (now (words .entry)) (On register Pending) ⌝ }
 {
-    let n = admitted(settings, words, true, register);
-    if n != 0 {
-        return Answer::Refused(n);
+    let at = register_span(settings, words, true, register);
+    if at.refusal != 0 {
+        return Answer::Refused(at.refusal);
     }
-    let at = place_of(settings, register);
     let a = at.start;
     let e = at.end;
     yes_or_no(register::is_pending(&words[a..e]))
@@ -217,11 +267,10 @@ pub fn pending(settings: &[u64], words: &[u64], register: u64) -> Answer
 pub fn swept(settings: &[u64], words: &[u64], register: u64) -> Answer
     ensures { λ a. ⌜ a ≡ reply (now (settings .entry)) (now (words .entry)) (On register SweptBucket) ⌝ }
 {
-    let n = admitted(settings, words, true, register);
-    if n != 0 {
-        return Answer::Refused(n);
+    let at = register_span(settings, words, true, register);
+    if at.refusal != 0 {
+        return Answer::Refused(at.refusal);
     }
-    let at = place_of(settings, register);
     let a = at.start;
     let e = at.end;
     register::swept(&words[a..e])
@@ -241,17 +290,14 @@ pub fn take(
 ) -> Answer
     ensures { λ a. ⌜ Told (now (settings .entry)) (now (words .entry)) (asking taken register fp stamp reading flag kind number) a (now (words .exit)) ⌝ }
 {
-    let listed = vet::ticket_fits(flag, kind, number);
-    let n = admitted(settings, words, listed, register);
-    if n != 0 {
-        return Answer::Refused(n);
+    let ticket = ticket_of(fp, stamp, reading, flag, kind, number);
+    let e = admit(settings, words, ticket.listed, register);
+    if e.refusal != 0 {
+        return Answer::Refused(e.refusal);
     }
+    let need = e.need;
     let s = bounds::settings_of(settings);
-    let need = starts::needed(s);
-    let ask = ask_of(fp, stamp, reading, flag, kind, number);
-    let r = register as usize;
-    let verdict = taking::take(&mut words[0..need], s, r, ask);
-    Answer::Said(verdict)
+    Answer::Said(taking::take(&mut words[0..need], s, register as usize, ticket.ask))
 }
 
 // As take, for a batch: judged as judge_batch judges it.
@@ -268,26 +314,23 @@ pub fn take_batch(
 ) -> Answer
     ensures { λ a. ⌜ Told (now (settings .entry)) (now (words .entry)) (asking taken-batch register fp stamp reading flag kind number) a (now (words .exit)) ⌝ }
 {
-    let listed = vet::ticket_fits(flag, kind, number);
-    let n = admitted(settings, words, listed, register);
-    if n != 0 {
-        return Answer::Refused(n);
+    let ticket = ticket_of(fp, stamp, reading, flag, kind, number);
+    let e = admit(settings, words, ticket.listed, register);
+    if e.refusal != 0 {
+        return Answer::Refused(e.refusal);
     }
+    let need = e.need;
     let s = bounds::settings_of(settings);
-    let need = starts::needed(s);
-    let ask = ask_of(fp, stamp, reading, flag, kind, number);
-    let r = register as usize;
-    let verdict = taking::take_batch(&mut words[0..need], s, r, ask);
-    Answer::Said(verdict)
+    Answer::Said(taking::take_batch(&mut words[0..need], s, register as usize, ticket.ask))
 }
 
 // Closes the share book: every draw from now on is refused.
 pub fn close(settings: &[u64], words: &mut [u64]) -> Answer
     ensures { λ a. ⌜ Told (now (settings .entry)) (now (words .entry)) Close a (now (words .exit)) ⌝ }
 {
-    let n = vetted(settings, words, true);
-    if n != 0 {
-        return Answer::Refused(n);
+    let e = enter(settings, words, true);
+    if e.refusal != 0 {
+        return Answer::Refused(e.refusal);
     }
     book::front::close(&mut words[0..layout::FRONT]);
     Answer::Done
@@ -297,12 +340,12 @@ pub fn close(settings: &[u64], words: &mut [u64]) -> Answer
 pub fn expire(settings: &[u64], words: &mut [u64], reading: u64) -> Answer
     ensures { λ a. ⌜ Told (now (settings .entry)) (now (words .entry)) (Expire reading) a (now (words .exit)) ⌝ }
 {
-    let n = vetted(settings, words, true);
-    if n != 0 {
-        return Answer::Refused(n);
+    let e = enter(settings, words, true);
+    if e.refusal != 0 {
+        return Answer::Refused(e.refusal);
     }
+    let need = e.need;
     let s = bounds::settings_of(settings);
-    let need = starts::needed(s);
     expiring::expire(&mut words[0..need], s, Judged(reading));
     Answer::Done
 }
@@ -312,63 +355,46 @@ pub fn set_limits(settings: &[u64], words: &mut [u64], limits: &[u64]) -> Answer
     ensures { λ a. ⌜ Told (now (settings .entry)) (now (words .entry)) (SetLimits (now (limits .entry))) a (now (words .exit)) ⌝ }
 {
     let listed = vet::limits_fit(limits);
-    let n = vetted(settings, words, listed);
-    if n != 0 {
-        return Answer::Refused(n);
+    let e = enter(settings, words, listed);
+    if e.refusal != 0 {
+        return Answer::Refused(e.refusal);
     }
     let wanted = bounds::limits_of(limits);
     book::front::set_limits(&mut words[0..layout::FRONT], wanted);
     Answer::Done
 }
 
-// 0, or the first of the refusals of an opening, 1 and 2: it overwrites the words and reads none.
-fn opening_refused(settings: &[u64], limits: &[u64], starts: &[u64], words: usize) -> u64
-    ensures { λ n. ⌜ n ≡ opens (now (settings .entry)) (now (limits .entry)) (now (starts .entry)) words ⌝ }
+// What an opening enters with: it overwrites the words and reads none, so 1 and 2 alone.
+fn enter_opening(settings: &[u64], limits: &[u64], starts: &[u64], words: usize) -> Entry
+    ensures { λ e. ⌜ ByOpening (now (settings .entry)) (now (limits .entry)) (now (starts .entry)) words e ⌝ }
 {
-    if !vet::settings_fit(settings) {
-        return 1;
+    let e = vet::settings_entry(settings);
+    if e.refusal != 0 {
+        return vet::shut(1);
     }
-    let s = bounds::settings_of(settings);
     let bounded = vet::limits_fit(limits);
-    let listed = vet::starts_fit(s, starts);
+    let listed = vet::starts_fit(bounds::settings_of(settings), starts);
     if !(bounded & listed) {
-        return 1;
+        return vet::shut(1);
     }
-    if vet::too_short(s, words) {
-        return 2;
+    if words < e.need {
+        return vet::shut(2);
     }
-    0
+    e
 }
 
 // Opens the words: an empty book with these limits, and each register at its start.
 pub fn open(settings: &[u64], limits: &[u64], starts: &[u64], words: &mut [u64]) -> Answer
     ensures { λ a. ⌜ Told (now (settings .entry)) (now (words .entry)) (Open (now (limits .entry)) (now (starts .entry))) a (now (words .exit)) ⌝ }
 {
-    let n = opening_refused(settings, limits, starts, words.len());
-    if n != 0 {
-        return Answer::Refused(n);
+    let e = enter_opening(settings, limits, starts, words.len());
+    if e.refusal != 0 {
+        return Answer::Refused(e.refusal);
     }
+    let need = e.need;
     let s = bounds::settings_of(settings);
-    let wanted = bounds::limits_of(limits);
-    let need = starts::needed(s);
-    opening::open(&mut words[0..need], s, wanted, starts);
+    opening::open(&mut words[0..need], s, bounds::limits_of(limits), starts);
     Answer::Done
-}
-
-// Where a class's share book lies, under settings that are in bounds.
-fn class_place(settings: &[u64], class: Class) -> Span
-    requires { ⌜ settings-words-fit (now settings) ≡ true ⌝ }
-    ensures { λ p. ⌜ SpanAt (settings-of (now (settings .entry))) class p ⌝ }
-{
-    let s = bounds::settings_of(settings);
-    let shares = s.shares;
-    let start = starts::class_start(s, class);
-    let width = starts::class_width(shares);
-    Span {
-        shares: shares,
-        start: start,
-        end: start + width,
-    }
 }
 
 // The entries that a deliverer holds.
@@ -376,12 +402,11 @@ pub fn held(settings: &[u64], words: &[u64], kind: u64, number: u64) -> Answer
     ensures { λ a. ⌜ a ≡ reply (now (settings .entry)) (now (words .entry)) (HeldBy kind number) ⌝ }
 {
     let listed = codes::deliverer_fits(kind, number);
-    let n = vetted(settings, words, listed);
-    if n != 0 {
-        return Answer::Refused(n);
-    }
     let who = codes::deliverer_of(kind, number);
-    let at = class_place(settings, codes::class_of(who));
+    let at = class_span(settings, words, listed, codes::class_of(who));
+    if at.refusal != 0 {
+        return Answer::Refused(at.refusal);
+    }
     let a = at.start;
     let e = at.end;
     Answer::Entries(book::held_by(&words[a..e], at.shares, who))
@@ -392,11 +417,10 @@ pub fn totals(settings: &[u64], words: &[u64], class: u64) -> Answer
     ensures { λ a. ⌜ a ≡ reply (now (settings .entry)) (now (words .entry)) (ClassTotals class) ⌝ }
 {
     let listed = codes::class_fits(class);
-    let n = vetted(settings, words, listed);
-    if n != 0 {
-        return Answer::Refused(n);
+    let at = class_span(settings, words, listed, codes::class_at(class));
+    if at.refusal != 0 {
+        return Answer::Refused(at.refusal);
     }
-    let at = class_place(settings, codes::class_at(class));
     let a = at.start;
     let e = at.end;
     let t = book::held_of(&words[a..e]);
@@ -419,7 +443,7 @@ fn six_or_five(pending: bool, short: bool) -> u64
 // 0, or the first of the refusals of a dump that come after 4.
 fn dump_refused(part: &[u64], u: Usable, room: usize) -> u64
     requires { ⌜ RegisterWords u (now part) ⌝ }
-    ensures { λ n. ⌜ RegisterReads u (dump-refusal room) (now (part .entry)) n ⌝ }
+    ensures { λ n. ⌜ DumpLate u room (now (part .entry)) n ⌝ }
 {
     let pending = register::is_pending(part);
     let long = dumping::dump_length(part, u);
@@ -430,11 +454,10 @@ fn dump_refused(part: &[u64], u: Usable, room: usize) -> u64
 pub fn dump(settings: &[u64], words: &[u64], register: u64, out: &mut [u8]) -> Answer
     ensures { λ a. ⌜ ToldBytes (now (settings .entry)) (now (words .entry)) (On register (DumpTo (now (out .entry)))) a (now (out .exit)) ⌝ }
 {
-    let n = admitted(settings, words, true, register);
-    if n != 0 {
-        return Answer::Refused(n);
+    let at = register_span(settings, words, true, register);
+    if at.refusal != 0 {
+        return Answer::Refused(at.refusal);
     }
-    let at = place_of(settings, register);
     let a = at.start;
     let e = at.end;
     let late = dump_refused(&words[a..e], at.u, out.len());
@@ -445,10 +468,12 @@ pub fn dump(settings: &[u64], words: &[u64], register: u64, out: &mut [u8]) -> A
     Answer::Dumped(long as u64)
 }
 
-// What a restore answers that read so many bytes of a dump.
-fn told_restored(whole: bool, read: u64) -> Answer
-    ensures { λ a. ⌜ a ≡ restore-answer read whole ⌝ }
+// What a restore answers that read so many words of these bytes.
+fn told_restored(whole: bool, bytes: &[u8], long: usize) -> Answer
+    requires { ⌜ 8 * long ≤ length (now bytes) ⌝ }
+    ensures { λ a. ⌜ a ≡ restore-answer (8 * long) whole ⌝ }
 {
+    let read = 8 * (long as u64);
     if whole {
         return Answer::Whole(read);
     }
@@ -459,18 +484,17 @@ fn told_restored(whole: bool, read: u64) -> Answer
 pub fn restore(settings: &[u64], words: &mut [u64], register: u64, bytes: &[u8]) -> Answer
     ensures { λ a. ⌜ Told (now (settings .entry)) (now (words .entry)) (On register (Restore (now (bytes .entry)))) a (now (words .exit)) ⌝ }
 {
-    let n = admitted(settings, words, true, register);
-    if n != 0 {
-        return Answer::Refused(n);
+    let e = admit(settings, words, true, register);
+    if e.refusal != 0 {
+        return Answer::Refused(e.refusal);
     }
     let Lengths::Read(long) = dump::read_lengths(bytes) else {
         return Answer::Refused(7);
     };
+    let need = e.need;
     let s = bounds::settings_of(settings);
-    let need = starts::needed(s);
-    let r = register as usize;
-    let whole = restoring::restore(&mut words[0..need], s, r, bytes);
-    told_restored(whole, 8 * (long as u64))
+    let whole = restoring::restore(&mut words[0..need], s, register as usize, bytes);
+    told_restored(whole, bytes, long)
 }
 
 // As restore, but the register's own floor is forgotten first. `flag` is 1 where a floor is proven, to which it is raised after.
@@ -485,16 +509,22 @@ pub fn resume(
     ensures { λ a. ⌜ Told (now (settings .entry)) (now (words .entry)) (On register (Resume (now (bytes .entry)) flag floor)) a (now (words .exit)) ⌝ }
 {
     let listed = codes::flag_fits(flag);
-    let n = admitted(settings, words, listed, register);
-    if n != 0 {
-        return Answer::Refused(n);
+    let e = admit(settings, words, listed, register);
+    if e.refusal != 0 {
+        return Answer::Refused(e.refusal);
     }
     let Lengths::Read(long) = dump::read_lengths(bytes) else {
         return Answer::Refused(7);
     };
+    let need = e.need;
     let s = bounds::settings_of(settings);
-    let need = starts::needed(s);
-    let r = register as usize;
-    let whole = restoring::resume(&mut words[0..need], s, r, bytes, flag == 1, floor);
-    told_restored(whole, 8 * (long as u64))
+    let whole = restoring::resume(
+        &mut words[0..need],
+        s,
+        register as usize,
+        bytes,
+        flag == 1,
+        floor,
+    );
+    told_restored(whole, bytes, long)
 }

@@ -1,1 +1,2 @@
 pub mod Vetted
+pub mod Entries

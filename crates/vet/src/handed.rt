@@ -8,17 +8,7 @@ ghost use Prim.Native.Nat.{_<_};
 ghost use lib.ListN.{length};
 ghost use Rattle.model.specs.Class.{deliverer-fits};
 ghost use Rattle.model.specs.Codes.{flag-fits};
-ghost use Rattle.model.specs.Calls.{settings-words-fit, limits-words-fit, start-fits-at as fits-at, starts-fit as starts-within};
-
-// There are 29 words, and each setting is in its bounds.
-pub fn settings_fit(settings: &[u64]) -> bool
-    ensures { λ r. ⌜ r ≡ settings-words-fit (now (settings .entry)) ⌝ }
-{
-    if settings.len() != bounds::SETTINGS {
-        return false;
-    }
-    bounds::settings_fit(bounds::settings_of(settings))
-}
+ghost use Rattle.model.specs.Calls.{limits-words-fit, start-fits-at as fits-at, starts-fit as starts-within};
 
 // There are 5 words, and each limit is in its bounds.
 pub fn limits_fit(limits: &[u64]) -> bool

@@ -128,14 +128,13 @@ fn body_sound(s: Settings, body: &[u64]) -> bool
     registers_sound(s, &body[a..])
 }
 
-// All words that the settings need are sound.
-pub fn words_sound(s: Settings, words: &[u64]) -> bool
-    requires { ⌜ (settings-fit s ≡ true) × (words-needed s ≤ length (now words)) ⌝ }
+// All words that the settings need, so many, are sound.
+pub fn words_sound(s: Settings, need: usize, words: &[u64]) -> bool
+    requires { ⌜ (settings-fit s ≡ true) × (need ≡ words-needed s) × (need ≤ length (now words)) ⌝ }
     ensures { λ r. ⌜ r ≡ sound s (now (words .entry)) ⌝ }
 {
-    let n = starts::needed(s);
     if !front_sound(s, &words[0..layout::FRONT]) {
         return false;
     }
-    body_sound(s, &words[layout::FRONT..n])
+    body_sound(s, &words[layout::FRONT..need])
 }

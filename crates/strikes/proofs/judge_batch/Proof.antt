@@ -1,70 +1,23 @@
-use mathlib.Core.Path.{refl}
-use Rattle.register.specs.Rules.{asked-by, batch-register, batch-says}
-use Rattle.model.specs.declared.Answer.the-variants.{Said}
-use Rattle.model.specs.Calls.{Ticket, judged-batch, deed-fits, late-deed, done-on, asked, after-judged}
-use Rattle.strikes.proofs.OnRegister.{told-refused, enters, words-there, end-within, told-turned}
 use borrow.Author.Needs.{needs}
+use Rattle.model.specs.Calls.{deed-fits}
+use Rattle.strikes.proofs.OnRegister.{told-refused, words-there}
+use Rattle.strikes.proofs.Deeds.{was-judged-batch}
 use Rattle.strikes.proofs.judge_batch.Statement.{statement}
 use Rattle.strikes.proofs.judge_batch.Tie as tie
 
-ticket-fits-requires : tie.Need-ticket-fits-requires
-ticket-fits-requires c κs = search needs
-
-admitted-requires : tie.Need-admitted-requires
-admitted-requires c κs = search needs
-
-same-length : tie.Need-same-length
-same-length c = search needs
-
-returns : tie.Need-returns
-unfolding deed-fits
-returns c = told-refused (c .before .before .before .before .before .before .args .settings .now) (c .before .before .before .before .before .before .args .words .now) (c .before .before .before .before .before .before .args .register) (Ticket judged-batch (record { fp = c .before .before .before .before .before .before .args .fp; stamp = c .before .before .before .before .before .before .args .stamp; ms = c .before .before .before .before .before .before .args .reading; flag = c .before .before .before .before .before .before .args .flag; kind = c .before .before .before .before .before .before .args .kind; number = c .before .before .before .before .before .before .args .number })) _ (rw (c .before .before .before .ticket-fits .ensures) at (c .before .admitted .ensures)) (c .if1 .taken)
-
-place-of-requires : tie.Need-place-of-requires
-unfolding deed-fits
-place-of-requires c κs = let q = enters (c .before .before .before .before .before .before .args .settings .now) (c .before .before .before .before .before .before .args .words .now) (c .before .before .before .before .before .before .args .register) (Ticket judged-batch (record { fp = c .before .before .before .before .before .before .args .fp; stamp = c .before .before .before .before .before .before .args .stamp; ms = c .before .before .before .before .before .before .args .reading; flag = c .before .before .before .before .before .before .args .flag; kind = c .before .before .before .before .before .before .args .kind; number = c .before .before .before .before .before .before .args .number })) _ (rw (c .before .before .before .ticket-fits .ensures) at (c .before .admitted .ensures)) (c .if1 .left) in (q .fit, q .there)
-
-ask-of-requires : tie.Need-ask-of-requires
-ask-of-requires c κs = search needs
-
-mul-judge-batch : tie.Need-mul-judge-batch
-mul-judge-batch c = search needs
-
-sub-judge-batch : tie.Need-sub-judge-batch
-sub-judge-batch c = search needs
-
-part-judge-batch-start : tie.Need-part-judge-batch-start
-part-judge-batch-start c = search needs
-
-part-judge-batch-end : tie.Need-part-judge-batch-end
-unfolding deed-fits
-part-judge-batch-end c = search (end-within (c .before .before .before .before .before .before .before .before .args .settings .now) (c .before .before .before .before .before .before .before .before .args .words .now) (c .before .before .before .before .before .before .before .before .args .register) (Ticket judged-batch (record { fp = c .before .before .before .before .before .before .before .before .args .fp; stamp = c .before .before .before .before .before .before .before .before .args .stamp; ms = c .before .before .before .before .before .before .before .before .args .reading; flag = c .before .before .before .before .before .before .before .before .args .flag; kind = c .before .before .before .before .before .before .before .before .args .kind; number = c .before .before .before .before .before .before .before .before .args .number })) _ (rw (c .before .before .before .before .before .ticket-fits .ensures) at (c .before .before .before .admitted .ensures)) (c .before .before .if1 .left) (c .before .place-of .result) (c .before .place-of .ensures), needs)
-
-judge-batch-requires : tie.Need-judge-batch-requires
-unfolding deed-fits
-judge-batch-requires c κs = words-there (c .before .before .before .before .before .before .before .before .before .args .settings .now) (c .before .before .before .before .before .before .before .before .before .args .words .now) (c .before .before .before .before .before .before .before .before .before .args .register) (Ticket judged-batch (record { fp = c .before .before .before .before .before .before .before .before .before .args .fp; stamp = c .before .before .before .before .before .before .before .before .before .args .stamp; ms = c .before .before .before .before .before .before .before .before .before .args .reading; flag = c .before .before .before .before .before .before .before .before .before .args .flag; kind = c .before .before .before .before .before .before .before .before .before .args .kind; number = c .before .before .before .before .before .before .before .before .before .args .number })) _ (rw (c .before .before .before .before .before .before .ticket-fits .ensures) at (c .before .before .before .before .admitted .ensures)) (c .before .before .before .if1 .left) (c .before .before .place-of .result) (c .before .before .place-of .ensures)
-
-same-length-2 : tie.Need-same-length-2
-same-length-2 c = search needs
-
-returns-2 : tie.Need-returns-2
-unfolding deed-fits late-deed done-on asked after-judged
-returns-2 c = told-turned (c .before .before .before .before .before .before .before .before .before .before .before .before .args .settings .now) (c .before .before .before .before .before .before .before .before .before .before .before .before .args .words .now) (c .before .before .before .before .before .before .before .before .before .before .before .before .args .register) (Ticket judged-batch (record { fp = c .before .before .before .before .before .before .before .before .before .before .before .before .args .fp; stamp = c .before .before .before .before .before .before .before .before .before .before .before .before .args .stamp; ms = c .before .before .before .before .before .before .before .before .before .before .before .before .args .reading; flag = c .before .before .before .before .before .before .before .before .before .before .before .before .args .flag; kind = c .before .before .before .before .before .before .before .before .before .before .before .before .args .kind; number = c .before .before .before .before .before .before .before .before .before .before .before .before .args .number })) _ (rw (c .before .before .before .before .before .before .before .before .before .ticket-fits .ensures) at (c .before .before .before .before .before .before .before .admitted .ensures)) (c .before .before .before .before .before .before .if1 .left) (c .before .before .before .before .before .place-of .result) (c .before .before .before .before .before .place-of .ensures) (λ reg. refl) Said (λ u. batch-register u (asked-by (c .before .before .before .before .ask-of .result))) (λ u. batch-says u (asked-by (c .before .before .before .before .ask-of .result))) (λ t. rw (c .before .before .before .before .ask-of .ensures)) (λ t. rw (c .before .before .before .before .ask-of .ensures)) _ _ (c .before .before .judge-batch .ensures .1)
-
 pub judge-batch-spec : {M : Type 1} → statement M
+unfolding deed-fits
 judge-batch-spec =
     tie.close
     (tie.spec
-    ticket-fits-requires
-    admitted-requires
-    same-length
-    returns
-    place-of-requires
-    ask-of-requires
-    mul-judge-batch
-    sub-judge-batch
-    part-judge-batch-start
-    part-judge-batch-end
-    judge-batch-requires
-    same-length-2
-    returns-2)
+    (λ c κs. search needs)
+    (λ c κs. search needs)
+    (λ c. search needs)
+    (λ c. search told-refused)
+    (λ c. search needs)
+    (λ c. search needs)
+    (λ c. search needs)
+    (λ c. search needs)
+    (λ c κs. search words-there)
+    (λ c. search needs)
+    (λ c. search was-judged-batch))

@@ -1,11 +1,6 @@
+use borrow.Author.Needs.{needs}
 use Rattle.strikes.proofs.told_restored.Statement.{statement}
 use Rattle.strikes.proofs.told_restored.Tie as tie
 
-returns : tie.Need-returns
-returns c = rw (c .if1 .taken)
-
-returns-2 : tie.Need-returns-2
-returns-2 c = rw (c .if1 .left)
-
 pub told-restored-spec : {M : Type 1} → statement M
-told-restored-spec = tie.close (tie.spec returns returns-2)
+told-restored-spec = tie.close (tie.spec (λ c. search needs) (λ c. rw (c .if1 .taken)) (λ c. rw (c .if1 .left)))
