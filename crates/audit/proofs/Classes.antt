@@ -1,4 +1,4 @@
--- A class: its places lie behind four words, and what the two loops answer is its test.
+-- A class: its places lie behind its totals, and what the two loops answer is its test.
 use Prim.Native.Nat.{ℕ, _-_}
 use native.Mathlib.Nat.{zero-add, zero-mul}
 use native.Mathlib.Omega.{arith}
@@ -13,6 +13,7 @@ use Rattle.runs.specs.Combine.{readUp, testUp}
 use Rattle.model.specs.declared.Class.{Class}
 use Rattle.model.specs.declared.Shares.{Shares}
 use Rattle.model.specs.Numbers.{top32}
+use Rattle.model.specs.Widths.{class-head}
 use Rattle.model.specs.Settings.{shares-fit}
 use Rattle.model.specs.Book.{Place, entries-in, units}
 use Rattle.model.specs.BookWords.{most-entries, place-form, used-place, distinct, class-form}
@@ -26,10 +27,10 @@ few-of b fit =
     let k = shares-bounds b fit in
     record { places = k .places; pairs = k .pairs; feeder = k .feeder; peer = k .peer }
 
--- the words behind the four
-pub body-within : (b : Shares) (ws : List ℕ) → shares-fit b ≡ true → length ws ≡ class-width b → Within b (take (length ws - 4) (drop 4 ws))
+-- the words behind the totals
+pub body-within : (b : Shares) (ws : List ℕ) → shares-fit b ≡ true → length ws ≡ class-width b → Within b (take (length ws - class-head) (drop class-head ws))
 body-within b ws fit long =
-    let k : take (length ws - 4) (drop 4 ws) ≡ drop 4 ws = take-all (length ws - 4) (drop 4 ws) (rw length-drop (omega arith)) in
+    let k : take (length ws - class-head) (drop class-head ws) ≡ drop class-head ws = take-all (length ws - class-head) (drop class-head ws) (rw length-drop (omega arith)) in
     record { few = few-of b fit; long = rw (k, length-drop) (omega arith) }
 
 -- the same tests in the order of the form
@@ -54,9 +55,9 @@ module _ (b : Shares) (c : Class) where
   test-whole : (ws : List ℕ) → test-from b c 0 ws ≡ testUp (place-form c (b .pairs)) used-place (b .places) ws
   test-whole ws = let e : b .places - 0 ≡ b .places = omega arith in rw (e, zero-mul)
 
-  behind-four : (E H U x : ℕ) (ws : List ℕ) (t d : Bool) → t ≡ summed b c ws E H U → d ≡ distinct (read-from b c 0 ws)
+  behind-totals : (E H U x : ℕ) (ws : List ℕ) (t d : Bool) → t ≡ summed b c ws E H U → d ≡ distinct (read-from b c 0 ws)
       → (t && (d && leb x top32)) ≡ class-form b c .test (E ∷ H ∷ U ∷ x ∷ ws)
-  behind-four E H U x ws t d ht hd =
+  behind-totals E H U x ws t d ht hd =
       let ps : List Place = readUp (place-form c (b .pairs)) used-place (b .places) ws in
       let u : t ≡ (testUp (place-form c (b .pairs)) used-place (b .places) ws
       && (leb (entries-in ps) most-entries && sameWords (E ∷ H ∷ U ∷ []) (entries-in ps ∷ length ps ∷ units b ps ∷ [])))
@@ -67,13 +68,13 @@ module _ (b : Shares) (c : Class) where
       (sameWords (E ∷ H ∷ U ∷ []) (entries-in ps ∷ length ps ∷ units b ps ∷ [])))
 
   pub class-test : (ws : List ℕ) → length ws ≡ class-width b → (t d : Bool)
-      → t ≡ summed b c (take (length ws - 4) (drop 4 ws)) (getD ws 0 0) (getD ws 1 0) (getD ws 2 0)
-      → d ≡ distinct (read-from b c 0 (take (length ws - 4) (drop 4 ws)))
+      → t ≡ summed b c (take (length ws - class-head) (drop class-head ws)) (getD ws 0 0) (getD ws 1 0) (getD ws 2 0)
+      → d ≡ distinct (read-from b c 0 (take (length ws - class-head) (drop class-head ws)))
       → (t && (d && leb (getD ws 3 0) top32)) ≡ class-form b c .test ws
   class-test [] long t d ht hd = absurd (omega arith)
   class-test (E ∷ []) long t d ht hd = absurd (omega arith)
   class-test (E ∷ H ∷ []) long t d ht hd = absurd (omega arith)
   class-test (E ∷ H ∷ U ∷ []) long t d ht hd = absurd (omega arith)
   class-test (E ∷ H ∷ U ∷ x ∷ ws) long t d ht hd =
-      let k : take (length (E ∷ H ∷ U ∷ x ∷ ws) - 4) ws ≡ ws = take-all (length (E ∷ H ∷ U ∷ x ∷ ws) - 4) ws (omega arith) in
-      behind-four E H U x ws t d (rw k at ht) (rw k at hd)
+      let k : take (length (E ∷ H ∷ U ∷ x ∷ ws) - class-head) ws ≡ ws = take-all (length (E ∷ H ∷ U ∷ x ∷ ws) - class-head) ws (omega arith) in
+      behind-totals E H U x ws t d (rw k at ht) (rw k at hd)

@@ -13,6 +13,7 @@ use Rattle.runs.specs.Combine.{testUp}
 use Rattle.runs.proofs.Walk.{test-stop, test-on}
 use Rattle.model.specs.declared.Class.{Class}
 use Rattle.model.specs.declared.Shares.{Shares}
+use Rattle.model.specs.Widths.{place-width}
 use Rattle.model.specs.Book.{Place, entries, entries-in, units, place-units}
 use Rattle.model.specs.BookWords.{place-form, place-sound, used-place, read-who, read-place}
 use Rattle.audit.specs.Spot.{Spot, read-from, test-from, agreeing, totals-rule}
@@ -56,9 +57,9 @@ module _ (b : Shares) (c : Class) (ws : List ℕ) (E H U : ℕ) where
         let t : test-from b c i ws ≡ true = rw e in
         hs ∙ rule-none b E H U sum i cost ∙ sym (rw (t, read-past b c ws i h) at (l .goes))
 
-    module _ (a e : ℕ) (s : Spot b i a) (he : e ≡ a + (2 * (b .pairs) + 4)) (h : i < b .places)
+    module _ (a e : ℕ) (s : Spot b i a) (he : e ≡ a + place-width (b .pairs)) (h : i < b .places)
         (u : Bool) (hu : u ≡ used-place (midOf a (e - a) ws)) where
-      flag : u ≡ used-place (take (2 * (b .pairs) + 4) (drop (i * (2 * (b .pairs) + 4)) ws))
+      flag : u ≡ used-place (take (place-width (b .pairs)) (drop (i * place-width (b .pairs)) ws))
       flag = hu ∙ ap used-place (part-is b c ws i a e s he h)
 
       -- an unused place: the rest is zeros
@@ -66,7 +67,7 @@ module _ (b : Shares) (c : Class) (ws : List ℕ) (E H U : ℕ) where
           → (z && same) ≡ summed b c ws E H U
       adds-stop t z hz same hs =
           let k : midOf a (length ws - a) ws ≡ drop a ws = take-all (length ws - a) (drop a ws) (rw length-drop (omega arith)) in
-          let q : z ≡ zeros (drop (i * (2 * (b .pairs) + 4)) ws) = hz ∙ rw (k, s .is) in
+          let q : z ≡ zeros (drop (i * place-width (b .pairs)) ws) = hz ∙ rw (k, s .is) in
           let off = test-stop (place-form c (b .pairs)) used-place (b .places) i ws h (sym flag ∙ t) in
           rw (q, hs ∙ rule-none b E H U sum i cost) (sym (rw (off, read-none b c ws i a e s he h u hu t) at (l .goes)))
 
@@ -84,7 +85,7 @@ module _ (b : Shares) (c : Class) (ws : List ℕ) (E H U : ℕ) where
         pub adds-on : ok ≡ true → (v : ℕ) → v ≤ 4_096 → ((number : ℕ) → v ≡ place-units b (read-who c (getD ws a 0) number))
             → Adds b c ws E H U (sum + getD ws (a + 2) 0) (cost + (getD ws (a + 2) 0 + v)) (i + 1)
         adds-on f v few hv =
-            let part : List ℕ = take (2 * (b .pairs) + 4) (drop (i * (2 * (b .pairs) + 4)) ws) in
+            let part : List ℕ = take (place-width (b .pairs)) (drop (i * place-width (b .pairs)) ws) in
             let k = ap (place-sound c (b .pairs)) (sym (part-is b c ws i a e s he h)) ∙ sym ho ∙ f in
             let p = passed-place part c (b .pairs) k in
             let k0 : getD part 0 0 ≡ getD ws a 0 = word-here b c ws i a e s he h 0 (omega arith) ∙ rw (add-zero a) in

@@ -8,8 +8,10 @@ use lib.ListN.{length, drop}
 use Rattle.model.specs.declared.Class.{Class}
 use Rattle.model.specs.declared.Shares.{Shares}
 use Rattle.runs.specs.Combine.{readUp, testUp}
+use Rattle.model.specs.Widths.{place-width}
 use Rattle.model.specs.Book.{Place, entries-in, units}
 use Rattle.model.specs.BookWords.{most-entries, place-form, used-place}
+use Rattle.model.specs.Most.{places-most}
 
 -- the bounds of settings that fit
 pub record Few (b : Shares) : Type 0 where
@@ -21,21 +23,21 @@ pub record Few (b : Shares) : Type 0 where
 -- the words of P places, under such settings
 pub record Within (b : Shares) (ws : List ℕ) : Type 0 where
   pub few : Few b
-  pub long : length ws ≡ b .places * (2 * (b .pairs) + 4)
+  pub long : length ws ≡ b .places * place-width (b .pairs)
 
 -- place i starts at word a
 pub record Spot (b : Shares) (i a : ℕ) : Type 0 where
-  pub is : a ≡ i * (2 * (b .pairs) + 4)
-  pub whole : a + (2 * (b .pairs) + 4) ≤ b .places * (2 * (b .pairs) + 4)
-  pub small : a ≤ 65_792
+  pub is : a ≡ i * place-width (b .pairs)
+  pub whole : a + place-width (b .pairs) ≤ b .places * place-width (b .pairs)
+  pub small : a ≤ places-most
 
 -- the used places from place i on
 abbrev pub read-from : Shares → Class → ℕ → List ℕ → List Place
-read-from b c i ws = readUp (place-form c (b .pairs)) used-place (b .places - i) (drop (i * (2 * (b .pairs) + 4)) ws)
+read-from b c i ws = readUp (place-form c (b .pairs)) used-place (b .places - i) (drop (i * place-width (b .pairs)) ws)
 
 -- they are sound, and what follows them is 0
 abbrev pub test-from : Shares → Class → ℕ → List ℕ → Bool
-test-from b c i ws = testUp (place-form c (b .pairs)) used-place (b .places - i) (drop (i * (2 * (b .pairs) + 4)) ws)
+test-from b c i ws = testUp (place-form c (b .pairs)) used-place (b .places - i) (drop (i * place-width (b .pairs)) ws)
 
 -- the totals that the words say are those that were added up
 abbrev pub agreeing : ℕ → ℕ → ℕ → ℕ → ℕ → ℕ → Bool

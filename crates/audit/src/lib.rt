@@ -1,4 +1,4 @@
-// The soundness test of one class of the share book, for every content whatsoever. A class is four words of totals and P places;
+// The soundness test of one class of the share book, for every content whatsoever. A class is its totals and P places;
 // nothing is believed of them before it is tested, and no sum can wrap.
 use model::Class;
 use model::Shares;

@@ -4,8 +4,9 @@ use numbers::bounds::MOST_ENTRIES;
 use numbers::codes;
 use numbers::layout;
 ghost use mathlib.Core.Path.{_≡_};
-ghost use Prim.Native.Nat.{_+_, _*_, _≤_};
+ghost use Prim.Native.Nat.{_≤_};
 ghost use lib.ListN.{length};
+ghost use Rattle.model.specs.Widths.{place-head, place-width};
 ghost use Rattle.model.specs.Class.{same-deliverer};
 ghost use Rattle.model.specs.BookWords.{kind-sound as kind-rule, place-sound as place-rule, read-who, used-place};
 
@@ -19,7 +20,7 @@ fn kind_sound(class: Class, kind: u64) -> bool
 
 // A used place is sound: the cells of its pairs lie within it before they are read.
 pub fn place_sound(place: &[u64], pairs: u64, class: Class) -> bool
-    requires { ⌜ (pairs ≤ 512) × (length (now place) ≡ 2 * pairs + 4) ⌝ }
+    requires { ⌜ (pairs ≤ 512) × (length (now place) ≡ place-width pairs) ⌝ }
     ensures { λ r. ⌜ r ≡ place-rule class pairs (now (place .entry)) ⌝ }
 {
     let kind = kind_sound(class, place[layout::PLACE_KIND]);
@@ -34,7 +35,7 @@ pub fn place_sound(place: &[u64], pairs: u64, class: Class) -> bool
 
 // A place is used if it has pairs.
 pub fn in_use(place: &[u64]) -> bool
-    requires { ⌜ 4 ≤ length (now place) ⌝ }
+    requires { ⌜ place-head ≤ length (now place) ⌝ }
     ensures { λ r. ⌜ r ≡ used-place (now (place .entry)) ⌝ }
 {
     place[layout::PLACE_PAIRS] != 0

@@ -1,4 +1,4 @@
--- A class's words: four totals, the places in use one after the other, and zeros. Where place i lies, and what the whole is when it changes.
+-- A class's words: its totals, the places in use one after the other, and zeros. Where place i lies, and what the whole is when it changes.
 use Prim.Native.Nat.{ℕ, zero, suc, _+_, _-_, _*_, _<_, _≤_}
 use native.Mathlib.Nat.{zero-mul, suc-mul, mul-le-mul-right}
 use native.Mathlib.Omega.{arith}
@@ -15,6 +15,7 @@ use Rattle.runs.specs.Combine.{EachOk, encUp}
 use Rattle.runs.specs.Turns.{Is}
 use Rattle.runs.proofs.Chunks.{flat-append}
 use Rattle.runs.proofs.Exact.{up-none}
+use Rattle.model.specs.Widths.{class-head, place-width}
 use Rattle.model.specs.Book.{Place, Held, entries-in, units}
 use Rattle.model.specs.BookWords.{encode-place, PlaceOk, place-form, class-form}
 use Rattle.model.proofs.BookWords.{place-exact, class-exact}
@@ -47,13 +48,13 @@ unfolding flat
 flat-cons p ps = refl
 
 module _ (c : Class) (E : ℕ) where
-  pub place-long : (p : Place) → PlaceOk c E p → length (encode-place p) ≡ 2 * E + 4
+  pub place-long : (p : Place) → PlaceOk c E p → length (encode-place p) ≡ place-width E
   place-long p ok = place-exact c E .width p ok
 
-  pub flat-long : (i : ℕ) (ps : List Place) → PlacesOk c E i ps → length (flat encode-place ps) ≡ length ps * (2 * E + 4)
+  pub flat-long : (i : ℕ) (ps : List Place) → PlacesOk c E i ps → length (flat encode-place ps) ≡ length ps * place-width E
   unfolding EachOk flat
-  flat-long i [] ok = sym (zero-mul (2 * E + 4))
-  flat-long i (p ∷ ps) ok = rw (length-append, place-long p (ok .0), flat-long (suc i) ps (ok .1), suc-mul (length ps) (2 * E + 4)) (omega arith)
+  flat-long i [] ok = sym (zero-mul (place-width E))
+  flat-long i (p ∷ ps) ok = rw (length-append, place-long p (ok .0), flat-long (suc i) ps (ok .1), suc-mul (length ps) (place-width E)) (omega arith)
 
   pub ok-append : (i j : ℕ) (xs ys : List Place) → PlacesOk c E i (xs ++ ys) → PlacesOk c E i xs × PlacesOk c E (i + length xs) ys
   unfolding EachOk
@@ -64,7 +65,7 @@ module _ (c : Class) (E : ℕ) where
       ((ok .0, r .0), rw e (r .1))
 
   pub up-flat : (n : ℕ) (ps : List Place) → length ps ≤ n
-      → encUp (place-form c E) n ps ≡ flat encode-place ps ++ replicate ((n - length ps) * (2 * E + 4)) 0
+      → encUp (place-form c E) n ps ≡ flat encode-place ps ++ replicate ((n - length ps) * place-width E) 0
   unfolding flat encUp
   up-flat zero [] h = rw zero-mul
   up-flat zero (p ∷ ps) h = absurd (omega arith)
@@ -89,7 +90,7 @@ module _ (b : Shares) (c : Class) (ws : List ℕ) (w : ClassIs b c ws) where
 
   -- the words after the last place in use
   abbrev pub rest : List ℕ
-  rest = replicate ((b .places - length (w .is .value .places)) * (2 * b .pairs + 4)) 0
+  rest = replicate ((b .places - length (w .is .value .places)) * place-width (b .pairs)) 0
 
   pub body-is : encUp (place-form c (b .pairs)) (b .places) ps ≡ flat encode-place ps ++ rest
   body-is = up-flat c (b .pairs) (b .places) ps few
@@ -138,38 +139,39 @@ module _ (b : Shares) (c : Class) (ws : List ℕ) (w : ClassIs b c ws) where
     abbrev pub lead : List ℕ
     lead = entries-in (w .is .value .places) ∷ length (w .is .value .places) ∷ units b (w .is .value .places) ∷ w .is .value .expired ∷ flat encode-place (take i (w .is .value .places))
 
-    pub lead-long : length lead ≡ 4 + i * (2 * b .pairs + 4)
-    lead-long = let f = flat-long c (b .pairs) 0 front front-ok in let l = ap (λ (n : ℕ). n * (2 * b .pairs + 4)) front-long in omega arith
+    pub lead-long : length lead ≡ class-head + i * place-width (b .pairs)
+    lead-long = let f = flat-long c (b .pairs) 0 front front-ok in let l = ap (λ (n : ℕ). n * place-width (b .pairs)) front-long in omega arith
 
     pub words-cut : ws ≡ lead ++ (encode-place here ++ (flat encode-place back ++ rest))
     words-cut =
         words-are ∙ ap (λ (l : List ℕ). entries-in ps ∷ length ps ∷ units b ps ∷ w .is .value .expired ∷ l)
         (ap (λ (l : List Place). flat encode-place l ++ rest) cut ∙ rw (flat-append encode-place front (here ∷ back), flat-cons here back, append-assoc, append-assoc))
 
-    module _ (a e : ℕ) (ha : a ≡ 4 + i * (2 * b .pairs + 4)) (he : e ≡ a + (2 * b .pairs + 4)) where
-      size : e - a ≡ 2 * b .pairs + 4
+    module _ (a e : ℕ) (ha : a ≡ class-head + i * place-width (b .pairs)) (he : e ≡ a + place-width (b .pairs)) where
+      size : e - a ≡ place-width (b .pairs)
       size = omega arith
 
       pub within : e ≤ length ws
       within =
           let l = w .long in
-          let k = mul-le-mul-right (2 * b .pairs + 4) (let f = few in (let z : suc i ≤ b .places = omega arith in z)) in
-          let m = suc-mul i (2 * b .pairs + 4) in
+          let k = mul-le-mul-right (place-width (b .pairs)) (let f = few in (let z : suc i ≤ b .places = omega arith in z)) in
+          let m = suc-mul i (place-width (b .pairs)) in
           omega arith
 
       pub seen-here : midOf a (e - a) ws ≡ encode-place here
-      seen-here = rw (size, words-cut) (mid-of lead (encode-place here) _ a (2 * b .pairs + 4) (lead-long ∙ sym ha) (place-long c (b .pairs) here here-ok))
+      seen-here = rw (size, words-cut) (mid-of lead (encode-place here) _ a (place-width (b .pairs)) (lead-long ∙ sym ha) (place-long c (b .pairs) here here-ok))
 
       -- word j of the place
-      pub word-here : (j : ℕ) → j < 2 * b .pairs + 4 → getD ws (a + j) 0 ≡ getD (encode-place here) j 0
+      pub word-here : (j : ℕ) → j < place-width (b .pairs) → getD ws (a + j) 0 ≡ getD (encode-place here) j 0
       word-here j l = sym (getD-drop a ws j 0) ∙ sym (getD-take (e - a) (drop a ws) j 0 (omega (arith, size))) ∙ ap (λ (z : List ℕ). getD z j 0) seen-here
 
       -- with a place put back
       pub put-here : (q : Place) (ys : List ℕ) → ys ≡ encode-place q
-          → drop 4 (putMid a (e - a) ws ys) ≡ flat encode-place (front ++ q ∷ back) ++ rest
+          → drop class-head (putMid a (e - a) ws ys) ≡ flat encode-place (front ++ q ∷ back) ++ rest
       put-here q ys is =
           let p : putMid a (e - a) ws ys ≡ lead ++ (encode-place q ++ (flat encode-place back ++ rest)) =
-          rw (size, words-cut, is) (put-of lead (encode-place here) (flat encode-place back ++ rest) (encode-place q) a (2 * b .pairs + 4) (lead-long ∙ sym ha) (place-long c (b .pairs) here here-ok)) in
+          rw (size, words-cut, is)
+          (put-of lead (encode-place here) (flat encode-place back ++ rest) (encode-place q) a (place-width (b .pairs)) (lead-long ∙ sym ha) (place-long c (b .pairs) here here-ok)) in
           let f : flat encode-place (front ++ q ∷ back) ++ rest ≡ flat encode-place front ++ (encode-place q ++ (flat encode-place back ++ rest)) =
           rw (flat-append encode-place front (q ∷ back), flat-cons q back, append-assoc, append-assoc) in
-          ap (drop 4) p ∙ sym f
+          ap (drop class-head) p ∙ sym f

@@ -21,9 +21,10 @@ use Rattle.runs.specs.Turns.{Is, Turns}
 use Rattle.runs.proofs.Cases.{by-test}
 use Rattle.runs.proofs.Chunks.{flat-append}
 use Rattle.runs.proofs.Words.{drop-zeros}
-use Rattle.model.specs.Class.{class-of, kind-of}
+use Rattle.model.specs.Widths.{class-head, place-width}
+use Rattle.model.specs.Class.{class-of}
 use Rattle.model.specs.Book.{Pair, Place, Held, total, entries, place-units, entries-in, units, entries-of, pairs-of, listed, place-free, pair-free, draw-test, granted, with-pairs, add-pair, new-place, enter}
-use Rattle.model.specs.BookWords.{most-entries, pairs-sound, number-word, encode-place, place-form, class-form}
+use Rattle.model.specs.BookWords.{most-entries, pairs-sound, encode-place, place-form, class-form}
 use Rattle.model.proofs.BookKept.{granted-is}
 use Rattle.model.proofs.BookWords.{read-flat}
 use Rattle.model.proofs.Pairs.{rising}
@@ -33,7 +34,7 @@ use Rattle.book.specs.declared.totals.Totals.{Totals}
 use Rattle.book.specs.Sums.{totals-in, totals-of, taken}
 use Rattle.book.specs.Rules.{if-none}
 use Rattle.pairs.specs.Pairs.{before, second-at, count-at, raise-at, insert-at}
-use Rattle.book.specs.PlaceRules.{pairs-in, Wide, Has, Fits, raised-place, longer-place, opened-words}
+use Rattle.book.specs.PlaceRules.{pairs-in, Wide, Has, Fits, raised-place, longer-place, headed, opened-words}
 use Rattle.book.specs.ClassRules.{ClassIs, ClassReads, ClassTurns, place-index, spot-of, Found, Roomy, BodyTurns, entered, drawn-class}
 use Rattle.pairs.proofs.Shifts.{mid-of, put-of}
 use Rattle.pairs.proofs.PairLists.{before-le, second-below, add-listed, add-new}
@@ -44,14 +45,14 @@ use Rattle.book.proofs.Finding.{holders-sum, units-sum, units-small, if
 
 -- ---- contracts on the places alone
 pub body-one : (b : Shares) (c : Class) (ws last : List ℕ) (w : Is (class-form b c .enc) (class-form b c .Ok) ws) (f : List Place → List Place)
-    → drop 4 last ≡ encUp (place-form c (b .pairs)) (b .places) (f (w .value .places)) → BodyTurns b c f ws last
+    → drop class-head last ≡ encUp (place-form c (b .pairs)) (b .places) (f (w .value .places)) → BodyTurns b c f ws last
 body-one b c ws last w f e = record {
   does = λ h ok is. e ∙ ap (λ (x : Held). encUp (place-form c (b .pairs)) (b .places) (f (x .places))) (sym (only b c ws w h ok is));
 }
 
 -- the words of other places, as many as before
 pub same-many : (b : Shares) (c : Class) (n : ℕ) (xs : List Place) → length xs ≡ n → n ≤ b .places
-    → flat encode-place xs ++ replicate ((b .places - n) * (2 * b .pairs + 4)) 0 ≡ encUp (place-form c (b .pairs)) (b .places) xs
+    → flat encode-place xs ++ replicate ((b .places - n) * place-width (b .pairs)) 0 ≡ encUp (place-form c (b .pairs)) (b .places) xs
 same-many b c n xs e h = rw (← e) (sym (up-flat c (b .pairs) (b .places) xs (omega arith)))
 
 -- ---- the totals, then the places
@@ -72,7 +73,7 @@ pub count-in : (p : Place) (k : ℕ) → count-at k (pairs-in (encode-place p)) 
 count-in p k = ap (count-at k) (read-flat (p .pairs) (p .past))
 
 new-words : (b : Shares) (who : Deliverer) (s : ℕ)
-    → _≡_ {A = List ℕ} (kind-of who ∷ number-word who 0 ∷ 1 ∷ 1 ∷ s ∷ 1 ∷ replicate (2 * b .pairs - 2) 0) (encode-place (new-place b who s))
+    → _≡_ {A = List ℕ} (headed who (s ∷ 1 ∷ replicate (2 * b .pairs - 2) 0)) (encode-place (new-place b who s))
 unfolding total flat
 new-words b who s = refl
 
@@ -116,28 +117,28 @@ module _ (b : Shares) (who : Deliverer) (ws : List ℕ) (spot : Spot) (r : Roomy
         ltb-true (length xs) (b .places) (rw e at (r .place))
 
     -- the words there are 0
-    module _ (a e : ℕ) (ha : a ≡ 4 + spot .place * (2 * b .pairs + 4)) (he : e ≡ a + (2 * b .pairs + 4)) where
+    module _ (a e : ℕ) (ha : a ≡ class-head + spot .place * place-width (b .pairs)) (he : e ≡ a + place-width (b .pairs)) where
       abbrev W : ℕ
-      W = 2 * b .pairs + 4
+      W = place-width (b .pairs)
 
       abbrev lead : List ℕ
       lead = entries-in (r .found .class .is .value .places) ∷ length (r .found .class .is .value .places) ∷ units b (r .found .class .is .value .places) ∷ r .found .class .is .value .expired ∷ flat encode-place (r .found .class .is .value .places)
 
       abbrev left : List ℕ
-      left = replicate ((b .places - suc (length (r .found .class .is .value .places))) * (2 * b .pairs + 4)) 0
+      left = replicate ((b .places - suc (length (r .found .class .is .value .places))) * place-width (b .pairs)) 0
 
       last-index : spot .place ≡ length xs
       last-index = let i = index-le who xs in let j = (at-index b who ws spot (r .found)) in let k = no-place in omega arith
 
       lead-is : length lead ≡ a
-      lead-is = let f = flat-long (class-of who) (b .pairs) 0 xs (each-ok b (class-of who) ws cw) in let l = ap (λ (n : ℕ). n * (2 * b .pairs + 4)) last-index in omega arith
+      lead-is = let f = flat-long (class-of who) (b .pairs) 0 xs (each-ok b (class-of who) ws cw) in let l = ap (λ (n : ℕ). n * place-width (b .pairs)) last-index in omega arith
 
-      zeros-are : replicate ((b .places - length xs) * (2 * b .pairs + 4)) 0 ≡ replicate W 0 ++ left
+      zeros-are : replicate ((b .places - length xs) * place-width (b .pairs)) 0 ≡ replicate W 0 ++ left
       zeros-are =
           let k = fits in
           let m : b .places - length xs ≡ suc (b .places - suc (length xs)) = omega arith in
-          let n : suc (b .places - suc (length xs)) * (2 * b .pairs + 4) ≡ W + (b .places - suc (length xs)) * (2 * b .pairs + 4) = rw (suc-mul (b .places - suc (length xs)) (2 * b .pairs + 4)) (omega arith) in
-          rw (m, n) (sym (replicate-append-replicate W ((b .places - suc (length xs)) * (2 * b .pairs + 4)) 0))
+          let n : suc (b .places - suc (length xs)) * W ≡ W + (b .places - suc (length xs)) * W = rw (suc-mul (b .places - suc (length xs)) W) (omega arith) in
+          rw (m, n) (sym (replicate-append-replicate W ((b .places - suc (length xs)) * place-width (b .pairs)) 0))
 
       words-new : ws ≡ lead ++ (replicate W 0 ++ left)
       words-new = words-are b (class-of who) ws cw ∙ ap (λ (l : List ℕ). lead ++ l) zeros-are
@@ -153,7 +154,7 @@ module _ (b : Shares) (who : Deliverer) (ws : List ℕ) (spot : Spot) (r : Roomy
       unfolding total
       enters-new ys is =
           let two = cw .two in
-          let d : drop {A = ℕ} 6 (replicate W 0) ≡ replicate (2 * b .pairs - 2) 0 = drop-zeros 6 W ∙ (let m : W - 6 ≡ 2 * b .pairs - 2 = omega arith in rw m) in
+          let d : drop {A = ℕ} (place-width 1) (replicate W 0) ≡ replicate (2 * b .pairs - 2) 0 = drop-zeros (place-width 1) W ∙ (let m : W - place-width 1 ≡ 2 * b .pairs - 2 = omega arith in rw m) in
           let y : ys ≡ encode-place (new-place b who (spot .second)) = is ∙ rw (seen-new, d) (new-words b who (spot .second)) in
           let n = new-place b who (spot .second) in
           let p : putMid a (e - a) ws ys ≡ lead ++ (encode-place n ++ left) = rw (size, words-new, y) (put-of lead (replicate W 0) left (encode-place n) a W lead-is (length-replicate W 0)) in
@@ -161,12 +162,12 @@ module _ (b : Shares) (who : Deliverer) (ws : List ℕ) (spot : Spot) (r : Roomy
           let l : length (xs ++ n ∷ []) ≡ suc (length xs) = length-append xs (n ∷ []) ∙ omega arith in
           let q : flat encode-place (xs ++ n ∷ []) ++ left ≡ flat encode-place xs ++ (encode-place n ++ left) = rw (flat-append encode-place xs (n ∷ []), flat-cons n [], append-assoc, append-assoc) (nothing-more xs n left) in
           body-one b (class-of who) ws (putMid a (e - a) ws ys) (cw .is) (enter b who (spot .second))
-          (ap (drop 4) p ∙ sym q ∙ same-many b (class-of who) (suc (length xs)) (xs ++ n ∷ []) l (omega arith)
+          (ap (drop class-head) p ∙ sym q ∙ same-many b (class-of who) (suc (length xs)) (xs ++ n ∷ []) l (omega arith)
           ∙ ap (encUp (place-form (class-of who) (b .pairs)) (b .places)) (sym (enter-none who (spot .second) b xs (let g = no-place in let j = (at-index b who ws spot (r .found)) in omega arith))))
 
   -- ---- the deliverer's place
   module _ (some : spot .entries ≡ 0 → ⊥) where
-    module _ (a e : ℕ) (ha : a ≡ 4 + spot .place * (2 * b .pairs + 4)) (he : e ≡ a + (2 * b .pairs + 4)) where
+    module _ (a e : ℕ) (ha : a ≡ class-head + spot .place * place-width (b .pairs)) (he : e ≡ a + place-width (b .pairs)) where
       abbrev now : Place
       now = getD (r .found .class .is .value .places) (spot .place) nobody
 
@@ -213,7 +214,7 @@ module _ (b : Shares) (who : Deliverer) (ws : List ℕ) (spot : Spot) (r : Roomy
         at-most : spot .before ≤ length (now .pairs)
         at-most = let k = before-le (spot .second) (now .pairs) in let e = (before-is b who ws spot (r .found) some a e ha he) in omega arith
 
-        pub insert-asks : Wide (midOf a (e - a) ws) × (spot .before ≤ getD (midOf a (e - a) ws) 3 0) × (6 + 2 * getD (midOf a (e - a) ws) 3 0 ≤ length (midOf a (e - a) ws))
+        pub insert-asks : Wide (midOf a (e - a) ws) × (spot .before ≤ getD (midOf a (e - a) ws) 3 0) × (place-width (getD (midOf a (e - a) ws) 3 0 + 1) ≤ length (midOf a (e - a) ws))
         insert-asks =
             let k = below-most in
             ((wide b who ws spot (r .found) some a e ha he), rw (here-seen b who ws spot (r .found) some a e ha he) at-most, rw ((here-seen b who ws spot (r .found) some a e ha he), place-long (class-of who) (b .pairs) now (here-fine b who ws spot (r .found) some a e ha he)) (omega arith))
@@ -243,7 +244,7 @@ module _ (b : Shares) (who : Deliverer) (ws : List ℕ) (spot : Spot) (r : Roomy
   pub enters : (mid : List ℕ) (place first opened : ℕ) (t₀ t : Totals) → place ≡ place-units b who → first ≡ if-none (spot .entries) 1
       → opened ≡ if-none (spot .entries) place → t₀ ≡ totals-in ws → t ≡ taken t₀ first opened
       → BodyTurns b (class-of who) (enter b who (spot .second)) ws mid
-      → ClassTurns b (class-of who) (entered b who (spot .second)) (λ h. tt {0}) ws (t .entries ∷ t .holders ∷ t .units ∷ t .expired ∷ drop 4 mid) (tt {0})
+      → ClassTurns b (class-of who) (entered b who (spot .second)) (λ h. tt {0}) ws (t .entries ∷ t .holders ∷ t .units ∷ t .expired ∷ drop class-head mid) (tt {0})
   enters mid place first opened t₀ t hp hf ho h₀ ht body =
       let w = r .found .class in
       let h = w .is .value in
@@ -253,7 +254,7 @@ module _ (b : Shares) (who : Deliverer) (ws : List ℕ) (spot : Spot) (r : Roomy
       let o : opened ≡ if-none (entries-of who (h .places)) (place-units b who) = ho ∙ ap₂ if-none e hp in
       let x : t ≡ totals-of b (entered b who (spot .second) h) = ht ∙ rw (s, f, o) (taken-are b (class-of who) who (spot .second) h (w .is .ok .1 .0 .1)) in
       turns-one b (class-of who) ws (w .is)
-      (class-words b (class-of who) (entered b who (spot .second) h) t (drop 4 mid) x (body .does h (w .is .ok) (w .is .words))) refl
+      (class-words b (class-of who) (entered b who (spot .second) h) t (drop class-head mid) x (body .does h (w .is .ok) (w .is .words))) refl
 
 -- ---- take
 module _ (b : Shares) (who : Deliverer) (s : ℕ) (ws : List ℕ) (w : ClassIs b (class-of who) ws) (spot : Spot)
@@ -303,8 +304,8 @@ module _ (b : Shares) (who : Deliverer) (s : ℕ) (ws : List ℕ) (w : ClassIs b
           let p : (not (eqb 0 0) || ltb (length xs) (b .places)) ≡ true = rw z at (free .place) in
           let k = ltb-true (length xs) (b .places) p in
           omega arith) in
-          let m = mul-le-mul-right (2 * b .pairs + 4) at in
-          let n = suc-mul (spot .place) (2 * b .pairs + 4) in
+          let m = mul-le-mul-right (place-width (b .pairs)) at in
+          let n = suc-mul (spot .place) (place-width (b .pairs)) in
           let long = w .long in
           record { found = found-of; place = free .place; pair = subst (λ (z : ℕ). pair-free b who z xs ≡ true) (sym second-is) (free .pair); within = omega arith }
 
@@ -339,12 +340,12 @@ held-none b who ws w at r h =
     reads-one b (class-of who) ws (w .is) (sym (entries-none who 0 (w .is .value .places) (omega arith)))
 
 pub held-here : (b : Shares) (who : Deliverer) (ws : List ℕ) (w : ClassIs b (class-of who) ws) (at : ℕ)
-    → ClassReads b (class-of who) (λ h. place-index who (h .places)) ws at → at < getD ws 1 0 → (a : ℕ) → a ≡ 4 + at * (2 * b .pairs + 4)
+    → ClassReads b (class-of who) (λ h. place-index who (h .places)) ws at → at < getD ws 1 0 → (a : ℕ) → a ≡ class-head + at * place-width (b .pairs)
     → ClassReads b (class-of who) (λ h. entries-of who (h .places)) ws (getD ws (a + 2) 0)
 held-here b who ws w at r h a ha =
     let k = holders-are b (class-of who) ws w in
     let i = index-is b who 0 ws w at r in
-    let v = word-of b (class-of who) ws w at a (a + (2 * b .pairs + 4)) h ha refl 2 (a + 2) (omega arith) refl in
+    let v = word-of b (class-of who) ws w at a (a + place-width (b .pairs)) h ha refl 2 (a + 2) (omega arith) refl in
     let n = entries-at who 0 (w .is .value .places) (omega arith) in
     let u : entries-of who (w .is .value .places) ≡ entries (getD (w .is .value .places) at nobody) = rw (← i) at n in
     reads-one b (class-of who) ws (w .is) (v ∙ sym u)

@@ -22,6 +22,7 @@ use Rattle.runs.specs.Turns.{Is}
 use Rattle.runs.proofs.Cases.{by-test, both-true}
 use Rattle.runs.proofs.Walk.{inside}
 use Rattle.model.specs.Numbers.{top32}
+use Rattle.model.specs.Widths.{class-head, place-head, place-width}
 use Rattle.model.specs.Settings.{shares-fit}
 use Rattle.model.specs.Class.{class-of, same-deliverer}
 use Rattle.model.specs.Book.{Place, entries, place-units, entries-in, units, entries-of, pairs-of, listed, holders-with, own-after, units-after, place-free, pair-free, draw-room, draw-limits, draw-test}
@@ -70,7 +71,7 @@ class-is b c ws fit w =
     let h = w .value in
     let few = w .ok .1 .0 .0 in
     let small = leb-true (entries-in (h .places)) most-entries (both-true (distinct (h .places)) (leb (entries-in (h .places)) most-entries) (w .ok .1 .1) .1) in
-    let long : length ws ≡ 4 + b .places * (2 * b .pairs + 4) = ap length (w .words) ∙ class-exact b c .width h (w .ok) ∙ omega arith in
+    let long : length ws ≡ class-head + b .places * place-width (b .pairs) = ap length (w .words) ∙ class-exact b c .width h (w .ok) ∙ omega arith in
     let n : getD ws 1 0 ≡ length (h .places) = ap (λ (l : List ℕ). getD l 1 0) (w .words) in
     let e : getD ws 0 0 ≡ entries-in (h .places) = ap (λ (l : List ℕ). getD l 0 0) (w .words) in
     let u : getD ws 2 0 ≡ units b (h .places) = ap (λ (l : List ℕ). getD l 2 0) (w .words) in
@@ -78,7 +79,7 @@ class-is b c ws fit w =
     let t : h .expired ≤ top32 = w .ok .0 in
     let most = units-most b (h .places) feeder peer in
     let holders : getD ws 1 0 ≤ b .places = omega arith in
-    let m = mul-le-mul-right (2 * b .pairs + 4) holders in
+    let m = mul-le-mul-right (place-width (b .pairs)) holders in
     record {
       is = w;
       places = places;
@@ -104,10 +105,10 @@ place-wide c E p ok h =
 
 module _ (b : Shares) (c : Class) (ws : List ℕ) (w : ClassIs b c ws) where
   -- place i lies within the words
-  pub in-part : (i : ℕ) → i < getD ws 1 0 → 4 + i * (2 * b .pairs + 4) + (2 * b .pairs + 4) ≤ length ws
-  in-part i h = let k = inside (getD ws 1 0) i (2 * b .pairs + 4) h in let l = w .used in omega arith
+  pub in-part : (i : ℕ) → i < getD ws 1 0 → class-head + i * place-width (b .pairs) + place-width (b .pairs) ≤ length ws
+  in-part i h = let k = inside (getD ws 1 0) i (place-width (b .pairs)) h in let l = w .used in omega arith
 
-  module _ (i a e : ℕ) (h : i < getD ws 1 0) (ha : a ≡ 4 + i * (2 * b .pairs + 4)) (he : e ≡ a + (2 * b .pairs + 4)) where
+  module _ (i a e : ℕ) (h : i < getD ws 1 0) (ha : a ≡ class-head + i * place-width (b .pairs)) (he : e ≡ a + place-width (b .pairs)) where
     pub below : i < length (ps b c ws w)
     below = let k = holders-are b c ws w in omega arith
 
@@ -117,7 +118,7 @@ module _ (b : Shares) (c : Class) (ws : List ℕ) (w : ClassIs b c ws) where
     pub part-wide : Wide (midOf a (e - a) ws)
     part-wide = rw part-here (place-wide c (b .pairs) (here b c ws w i below) (here-ok b c ws w i below) (w .pairs))
 
-    pub word-of : (j n : ℕ) → j < 4 → n ≡ a + j → getD ws n 0 ≡ getD (encode-place (here b c ws w i below)) j 0
+    pub word-of : (j n : ℕ) → j < place-head → n ≡ a + j → getD ws n 0 ≡ getD (encode-place (here b c ws w i below)) j 0
     word-of j n l hn = rw hn (word-here b c ws w i below a e ha he j (omega arith))
 
 -- ---- find_place
@@ -140,7 +141,7 @@ module _ (b : Shares) (who : Deliverer) (ws : List ℕ) (w : ClassIs b (class-of
       let l : place-index who all ≡ i + 0 = rw d at (s .left) in
       reads-one b (class-of who) ws (w .is) (omega arith)
 
-  module _ (i : ℕ) (s : Seeking i) (h : i < getD ws 1 0) (a : ℕ) (ha : a ≡ 4 + i * (2 * b .pairs + 4)) where
+  module _ (i : ℕ) (s : Seeking i) (h : i < getD ws 1 0) (a : ℕ) (ha : a ≡ class-head + i * place-width (b .pairs)) where
     at-i : i < length all
     at-i = let k = holders-are b (class-of who) ws w in omega arith
 
@@ -149,8 +150,8 @@ module _ (b : Shares) (who : Deliverer) (ws : List ℕ) (w : ClassIs b (class-of
 
     test : names-by who (getD ws a 0) (getD ws (a + 1) 0) ≡ same-deliverer who (getD all i nobody .who)
     test =
-        let k = word-of b (class-of who) ws w i a (a + (2 * b .pairs + 4)) h ha refl 0 a (omega arith) (omega arith) in
-        let n = word-of b (class-of who) ws w i a (a + (2 * b .pairs + 4)) h ha refl 1 (a + 1) (omega arith) refl in
+        let k = word-of b (class-of who) ws w i a (a + place-width (b .pairs)) h ha refl 0 a (omega arith) (omega arith) in
+        let n = word-of b (class-of who) ws w i a (a + place-width (b .pairs)) h ha refl 1 (a + 1) (omega arith) refl in
         let p = getD all i nobody in
         let ok = here-ok b (class-of who) ws w i at-i in
         rw (k, n) (names-same who (p .who) (p .mark) (sym (same-class-is (class-of (p .who)) (class-of who) (ok .class))))
@@ -185,7 +186,7 @@ module _ (b : Shares) (who : Deliverer) (s : ℕ) (ws : List ℕ) (w : ClassIs b
       let q = pairs-none who s (w .is .value .places) (omega arith) in
       reads-one b (class-of who) ws (w .is) (rw (e, q, i))
 
-  module _ (h : at < getD ws 1 0) (a e : ℕ) (ha : a ≡ 4 + at * (2 * b .pairs + 4)) (he : e ≡ a + (2 * b .pairs + 4)) where
+  module _ (h : at < getD ws 1 0) (a e : ℕ) (ha : a ≡ class-head + at * place-width (b .pairs)) (he : e ≡ a + place-width (b .pairs)) where
     pub found-here : (v : Seen) → v ≡ seen-in s (midOf a (e - a) ws)
         → ClassReads b (class-of who) (λ x. spot-of who s (x .places)) ws (record { second = s; place = at; entries = v .entries; pairs = v .pairs; before = v .before; listed = v .listed })
     found-here v is =

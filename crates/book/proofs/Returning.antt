@@ -17,6 +17,7 @@ use Rattle.runs.specs.Combine.{encUp}
 use Rattle.runs.specs.Turns.{Turns}
 use Rattle.runs.proofs.Cases.{by-test}
 use Rattle.runs.proofs.Chunks.{flat-append}
+use Rattle.model.specs.Widths.{class-head, place-width}
 use Rattle.model.specs.Class.{class-of, same-deliverer}
 use Rattle.model.specs.Book.{Pair, Place, total, entries, place-units, entries-in, units, pairs-of, listed, with-pairs, lower-pair, keep-place, give-back}
 use Rattle.model.specs.BookWords.{pairs-sound, encode-place, PlaceOk, place-form, class-form}
@@ -184,13 +185,13 @@ module _ (b : Shares) (who : Deliverer) (ws : List ℕ) (spot : Spot) (f : Found
       pub back-shorter : give-back who (spot .second) xs ≡ front ++ back
       back-shorter = back-is ∙ ap (λ (z : List Place). front ++ z) (keep-none left now back none-left)
 
-      module _ (a e : ℕ) (ha : a ≡ 4 + spot .place * (2 * b .pairs + 4)) (he : e ≡ 4 + getD ws 1 0 * (2 * b .pairs + 4)) where
-        pub closes : (ys : List ℕ) → ys ≡ drop (2 * b .pairs + 4) (midOf a (e - a) ws) ++ replicate (2 * b .pairs + 4) 0
+      module _ (a e : ℕ) (ha : a ≡ class-head + spot .place * place-width (b .pairs)) (he : e ≡ class-head + getD ws 1 0 * place-width (b .pairs)) where
+        pub closes : (ys : List ℕ) → ys ≡ drop (place-width (b .pairs)) (midOf a (e - a) ws) ++ replicate (place-width (b .pairs)) 0
             → BodyTurns b (class-of who) (give-back who (spot .second)) ws (putMid a (e - a) ws ys)
         closes ys is =
             let c = class-of who in
             let w = f .class in
-            let W = 2 * b .pairs + 4 in
+            let W = place-width (b .pairs) in
             let i = spot .place in
             let u = lead b c ws w i at-one in
             let v = encode-place now ++ flat encode-place back in
@@ -215,7 +216,7 @@ module _ (b : Shares) (who : Deliverer) (ws : List ℕ) (spot : Spot) (f : Found
             let g : flat encode-place (front ++ back) ++ replicate ((b .places - length (front ++ back)) * W) 0 ≡ flat encode-place front ++ ((flat encode-place back ++ replicate W 0) ++ z) =
             rw (r, flat-append encode-place front back, append-assoc, append-assoc) in
             body-one b c ws (putMid a (e - a) ws ys) (w .is) (give-back who (spot .second))
-            (ap (drop 4) p ∙ sym g ∙ sym (up-flat c (b .pairs) (b .places) (front ++ back) (omega arith)) ∙ ap (encUp (place-form c (b .pairs)) (b .places)) (sym back-shorter))
+            (ap (drop class-head) p ∙ sym g ∙ sym (up-flat c (b .pairs) (b .places) (front ++ back) (omega arith)) ∙ ap (encUp (place-form c (b .pairs)) (b .places)) (sym back-shorter))
 
     -- ---- the place stays
     module _ (more : spot .entries ≡ 1 → ⊥) where
@@ -225,7 +226,7 @@ module _ (b : Shares) (who : Deliverer) (ws : List ℕ) (spot : Spot) (f : Found
       pub back-same : give-back who (spot .second) xs ≡ front ++ with-pairs left now ∷ back
       back-same = back-is ∙ ap (λ (z : List Place). front ++ z) (keep-some left now back stays)
 
-      module _ (a e : ℕ) (ha : a ≡ 4 + spot .place * (2 * b .pairs + 4)) (he : e ≡ a + (2 * b .pairs + 4)) where
+      module _ (a e : ℕ) (ha : a ≡ class-head + spot .place * place-width (b .pairs)) (he : e ≡ a + place-width (b .pairs)) where
         seen : midOf a (e - a) ws ≡ encode-place now
         seen = seen-here b (class-of who) ws (f .class) (spot .place) at-one a e ha he
 
@@ -347,19 +348,19 @@ module _ (b : Shares) (who : Deliverer) (s : ℕ) (ws : List ℕ) (w : ClassIs b
         let k = holders-are b (class-of who) ws w in
         let l = has-one b who ws spot found (some-held b who ws spot found yes) in
         let at : suc (spot .place) ≤ getD ws 1 0 = omega arith in
-        let m = mul-le-mul-right (2 * b .pairs + 4) at in
-        let n = suc-mul (spot .place) (2 * b .pairs + 4) in
+        let m = mul-le-mul-right (place-width (b .pairs)) at in
+        let n = suc-mul (spot .place) (place-width (b .pairs)) in
         let u = w .used in
         record { found = found; yes = yes; within = omega arith; before-end = omega arith }
 
     pub untakes : (mid : List ℕ) (place gone freed : ℕ) (t₀ t : Totals) → place ≡ place-units b who → gone ≡ if-one (spot .entries) 1 → freed ≡ if-one (spot .entries) place
         → t₀ ≡ totals-in ws → t ≡ untaken t₀ gone freed → BodyTurns b (class-of who) (give-back who (spot .second)) ws mid
-        → ClassTurns b (class-of who) (returned who s) (λ h. tt {0}) ws (t .entries ∷ t .holders ∷ t .units ∷ t .expired ∷ drop 4 mid) (tt {0})
+        → ClassTurns b (class-of who) (returned who s) (λ h. tt {0}) ws (t .entries ∷ t .holders ∷ t .units ∷ t .expired ∷ drop class-head mid) (tt {0})
     unfolding found-of found
     untakes mid place gone freed t₀ t hp hg hf h₀ ht body =
         let h = w .is .value in
         let x : t ≡ totals-of b (returned who (spot .second) h) = ht ∙ rw (h₀ ∙ totals-are b (class-of who) ws w) (untaken-are b who ws spot found yes place gone freed hp hg hf) in
         let e = second-is b who s ws w spot r in
-        let y : t .entries ∷ t .holders ∷ t .units ∷ t .expired ∷ drop 4 mid ≡ class-form b (class-of who) .enc (returned who (spot .second) h) =
-        class-words b (class-of who) (returned who (spot .second) h) t (drop 4 mid) x (body .does h (w .is .ok) (w .is .words)) in
+        let y : t .entries ∷ t .holders ∷ t .units ∷ t .expired ∷ drop class-head mid ≡ class-form b (class-of who) .enc (returned who (spot .second) h) =
+        class-words b (class-of who) (returned who (spot .second) h) t (drop class-head mid) x (body .does h (w .is .ok) (w .is .words)) in
         turns-one b (class-of who) ws (w .is) (y ∙ ap (λ (z : ℕ). class-form b (class-of who) .enc (returned who z h)) e) refl

@@ -10,6 +10,7 @@ use borrow.Rule.Slice.PartMut.{midOf}
 use Rattle.model.specs.declared.Deliverer.{Deliverer}
 use Rattle.model.specs.declared.Shares.{Shares}
 use Rattle.runs.proofs.Cases.{by-test}
+use Rattle.model.specs.Widths.{class-head, place-width}
 use Rattle.model.specs.Class.{class-of}
 use Rattle.model.specs.Book.{Place, entries-of, pairs-of, listed}
 use Rattle.model.specs.BookWords.{encode-place, PlaceOk}
@@ -61,7 +62,7 @@ module _ (b : Shares) (who : Deliverer) (ws : List ℕ) (spot : Spot) (f : Found
         (λ t. let k = ltb-true (place-index who xs) (length xs) t in omega arith)
         (λ f. absurd (some (at-entries ∙ entries-none who (spot .second) xs (ltb-false (place-index who xs) (length xs) f))))
 
-    module _ (a e : ℕ) (ha : a ≡ 4 + spot .place * (2 * b .pairs + 4)) (he : e ≡ a + (2 * b .pairs + 4)) where
+    module _ (a e : ℕ) (ha : a ≡ class-head + spot .place * place-width (b .pairs)) (he : e ≡ a + place-width (b .pairs)) where
       abbrev pub here : Place
       here = getD (f .class .is .value .places) (spot .place) nobody
 

@@ -11,6 +11,7 @@ use Rattle.model.specs.declared.Limits.{Limits}
 use Rattle.runs.specs.Combine.{encUp}
 use Rattle.runs.specs.Turns.{Is, Turns, Reads}
 use Rattle.model.specs.Numbers.{top32}
+use Rattle.model.specs.Widths.{class-head, place-width}
 use Rattle.model.specs.Class.{class-of, same-deliverer}
 use Rattle.model.specs.Book.{Place, Held, entries-of, pairs-of, listed, place-free, pair-free, draw-test, granted, enter, give-back}
 use Rattle.model.specs.BookWords.{class-form, place-form, most-entries}
@@ -25,8 +26,8 @@ pub record ClassIs (b : Shares) (c : Class) (ws : List ℕ) : Type 0 where
   pub two : 2 ≤ b .pairs
   pub feeder : b .feeder ≤ 4_096
   pub peer : b .peer ≤ 4_096
-  pub long : length ws ≡ 4 + b .places * (2 * b .pairs + 4)
-  pub used : 4 + getD ws 1 0 * (2 * b .pairs + 4) ≤ length ws
+  pub long : length ws ≡ class-head + b .places * place-width (b .pairs)
+  pub used : class-head + getD ws 1 0 * place-width (b .pairs) ≤ length ws
   pub holders : getD ws 1 0 ≤ b .places
   pub entries : getD ws 0 0 ≤ most-entries
   pub units : getD ws 2 0 ≤ 2_262_144
@@ -66,19 +67,19 @@ pub record Roomy (b : Shares) (who : Deliverer) (ws : List ℕ) (spot : Spot) : 
   pub found : Found b who ws spot
   pub place : place-free b who (found .class .is .value .places) ≡ true
   pub pair : pair-free b who (spot .second) (found .class .is .value .places) ≡ true
-  pub within : 4 + spot .place * (2 * b .pairs + 4) + (2 * b .pairs + 4) ≤ length ws
+  pub within : class-head + spot .place * place-width (b .pairs) + place-width (b .pairs) ≤ length ws
 
 -- the second is listed, so its deliverer has a place
 pub record Listed (b : Shares) (who : Deliverer) (ws : List ℕ) (spot : Spot) : Type 0 where
   pub found : Found b who ws spot
   pub yes : spot .listed ≡ true
-  pub within : 4 + spot .place * (2 * b .pairs + 4) + (2 * b .pairs + 4) ≤ length ws
-  pub before-end : 4 + spot .place * (2 * b .pairs + 4) + (2 * b .pairs + 4) ≤ 4 + getD ws 1 0 * (2 * b .pairs + 4)
+  pub within : class-head + spot .place * place-width (b .pairs) + place-width (b .pairs) ≤ length ws
+  pub before-end : class-head + spot .place * place-width (b .pairs) + place-width (b .pairs) ≤ class-head + getD ws 1 0 * place-width (b .pairs)
 
--- what a function does to the places alone: the words after the four totals become those of `f` of the places
+-- what a function does to the places alone: the words after the totals become those of `f` of the places
 pub record BodyTurns (b : Shares) (c : Class) (f : List Place → List Place) (before after : List ℕ) : Type 0 where
   pub does : (h : Held) → class-form b c .Ok h → before ≡ class-form b c .enc h
-      → drop 4 after ≡ encUp (place-form c (b .pairs)) (b .places) (f (h .places))
+      → drop class-head after ≡ encUp (place-form c (b .pairs)) (b .places) (f (h .places))
 
 -- the class with other places
 abbrev pub with-held : List Place → Held → Held

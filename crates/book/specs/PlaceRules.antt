@@ -1,10 +1,11 @@
 -- One place: what its words say of a second, and which places a function on a place's words may be given.
-use Prim.Native.Nat.{ℕ, _+_, _-_, _*_, _≤_, _<_}
+use Prim.Native.Nat.{ℕ, _+_, _-_, _≤_, _<_}
 use mathlib.Core.Path.{_≡_}
 use mathlib.Core.Bool.{true}
 use mathlib.Core.List.{List, _∷_, _++_}
 use lib.ListN.{length, getD, drop}
 use Rattle.model.specs.declared.Deliverer.{Deliverer}
+use Rattle.model.specs.Widths.{place-head, place-width}
 use Rattle.model.specs.Class.{kind-of}
 use Rattle.model.specs.Book.{Pair, Place, total, entries, with-pairs, later-pairs}
 use Rattle.model.specs.BookWords.{most-entries, pair-words, read-pairs, pairs-sound, number-word}
@@ -14,7 +15,7 @@ use Rattle.pairs.specs.Pairs.{before, second-at, raise-at, lower-at, count-at, 
 
 -- the pairs of a place's words
 abbrev pub pairs-in : List ℕ → List Pair
-pairs-in ws = read-pairs (getD ws 3 0) (drop 4 ws)
+pairs-in ws = read-pairs (getD ws 3 0) (drop place-head ws)
 
 abbrev pub seen-in : ℕ → List ℕ → Seen
 seen-in s ws = record {
@@ -27,7 +28,7 @@ seen-in s ws = record {
 -- a place's words, wide enough for its pairs, with a sum that is small
 pub record Wide (ws : List ℕ) : Type 0 where
   pub few : getD ws 3 0 ≤ 512
-  pub long : 4 + 2 * getD ws 3 0 ≤ length ws
+  pub long : place-width (getD ws 3 0) ≤ length ws
   pub small : getD ws 2 0 ≤ most-entries
   pub sum : total (pairs-in ws) ≤ most-entries
 
@@ -70,6 +71,10 @@ later-place t p = with-pairs (later-pairs t (p .pairs)) p
 abbrev pub left-of : ℕ → Place → Left
 left-of t p = record { pairs = length (later-pairs t (p .pairs)); gone = entries p - total (later-pairs t (p .pairs)) }
 
+-- the head of a new place, before its cells
+abbrev pub headed : Deliverer → List ℕ → List ℕ
+headed who cells = kind-of who ∷ number-word who 0 ∷ 1 ∷ 1 ∷ cells
+
 -- the words of a new place, over words that were there
 abbrev pub opened-words : Deliverer → ℕ → List ℕ → List ℕ
-opened-words who s ws = kind-of who ∷ number-word who 0 ∷ 1 ∷ 1 ∷ pair-words (record { second = s; count = 1 }) ++ drop 6 ws
+opened-words who s ws = headed who (pair-words (record { second = s; count = 1 }) ++ drop (place-width 1) ws)

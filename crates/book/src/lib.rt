@@ -1,5 +1,5 @@
-// The share book of one class, in its own part of the lent words: entries, holders, units and `expired`, then P places of 2E + 4
-// words in order of arrival. A draw is a search, a reading test that says why not, and a step that enters.
+// The share book of one class, in its own part of the lent words: entries, holders, units and `expired`, then P places, each its
+// head and E pairs, in order of arrival. A draw is a search, a reading test that says why not, and a step that enters.
 pub mod decide;
 pub mod front;
 pub mod place;
@@ -11,6 +11,7 @@ ghost use mathlib.Core.Bool.{true};
 ghost use lib.ListN.{length};
 ghost use Rattle.model.specs.declared.Shares.{Shares};
 ghost use Rattle.model.specs.declared.Class.{Class};
+ghost use Rattle.model.specs.Widths.{class-head};
 ghost use Rattle.model.specs.Settings.{limits-fit};
 ghost use Rattle.model.specs.Class.{class-of};
 ghost use Rattle.model.specs.Book.{draw-test, enter, give-back, entries-of};
@@ -189,7 +190,7 @@ pub fn held_by(part: &[u64], shares: Shares, who: Deliverer) -> u64
 
 // The totals of a class: entries, holders, units and `expired`.
 pub fn held_of(part: &[u64]) -> totals::Totals
-    requires { ⌜ 4 ≤ length (now part) ⌝ }
+    requires { ⌜ class-head ≤ length (now part) ⌝ }
     ensures { λ r. ⌜ ((b : Shares) (c : Class) → ClassReads b c (totals-of b) (now (part .entry)) r) ⌝ }
 {
     totals::read(part)

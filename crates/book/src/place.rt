@@ -1,8 +1,9 @@
 // One place: the kind and number of its deliverer, its entries, how many pairs it has, then the cells of E pairs.
-ghost use Prim.Native.Nat.{_+_, _*_, _≤_, _<_};
+ghost use Prim.Native.Nat.{_+_, _≤_, _<_};
 ghost use mathlib.Core.Path.{_≡_};
 ghost use lib.ListN.{length, getD};
 ghost use Rattle.runs.specs.Turns.{Turns};
+ghost use Rattle.model.specs.Widths.{place-width};
 ghost use Rattle.model.specs.Class.{kind-of};
 ghost use Rattle.model.specs.Book.{total};
 ghost use Rattle.model.specs.BookWords.{number-word, encode-place, most-entries};
@@ -76,7 +77,7 @@ pub fn look(place: &[u64], second: u64) -> Seen
 
 // A new place: one entry at its second.
 pub fn open(place: &mut [u64], who: Deliverer, second: u64)
-    requires { ⌜ 6 ≤ length (now place) ⌝ }
+    requires { ⌜ place-width 1 ≤ length (now place) ⌝ }
     ensures { λ _. ⌜ now (place .exit) ≡ opened-words who second (now (place .entry)) ⌝ }
 {
     place[layout::PLACE_KIND] = kind_word(who);
@@ -99,7 +100,7 @@ pub fn raise(place: &mut [u64], k: usize)
 
 // A pair of one entry comes before pair k.
 pub fn insert(place: &mut [u64], k: usize, second: u64)
-    requires { ⌜ Wide (now place) × (k ≤ getD (now place) 3 0) × (6 + 2 * getD (now place) 3 0 ≤ length (now place)) ⌝ }
+    requires { ⌜ Wide (now place) × (k ≤ getD (now place) 3 0) × (place-width (getD (now place) 3 0 + 1) ≤ length (now place)) ⌝ }
     ensures { λ _. ⌜ Turns encode-place (Fits k) (longer-place k second) (λ p. tt {0}) (now (place .entry)) (now (place .exit)) (tt {0}) ⌝ }
 {
     let sum = place[layout::PLACE_ENTRIES];

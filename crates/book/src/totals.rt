@@ -1,4 +1,4 @@
-// A class's totals: the first four words of the class's part. A draw, a return and an expiry alter them by `take`, `untake` and
+// A class's totals: the first words of the class's part. A draw, a return and an expiry alter them by `take`, `untake` and
 // `expire`, to which they are lent. Each of these hands the totals by value to the function that does the work; whoever holds
 // the totals by value lends them by `lent_to_take`, `lent_to_untake` and `lent_to_expire`.
 use numbers::layout;
@@ -7,6 +7,7 @@ ghost use Prim.Native.Nat.{_≤_};
 ghost use mathlib.Core.List.{_∷_};
 ghost use lib.ListN.{length, drop};
 ghost use Rattle.book.specs.Sums.{totals-in, taken, untaken, expired-to, CanTake, CanUntake, CanExpire};
+ghost use Rattle.model.specs.Widths.{class-head};
 
 pub struct Totals {
     pub entries: u64,
@@ -17,7 +18,7 @@ pub struct Totals {
 
 // The totals of a class.
 pub fn read(part: &[u64]) -> Totals
-    requires { ⌜ 4 ≤ length (now part) ⌝ }
+    requires { ⌜ class-head ≤ length (now part) ⌝ }
     ensures { λ r. ⌜ r ≡ totals-in (now (part .entry)) ⌝ }
 {
     Totals {
@@ -30,8 +31,8 @@ pub fn read(part: &[u64]) -> Totals
 
 // Stores the totals of a class.
 pub fn write(part: &mut [u64], t: Totals)
-    requires { ⌜ 4 ≤ length (now part) ⌝ }
-    ensures { λ _. ⌜ now (part .exit) ≡ t .entries ∷ t .holders ∷ t .units ∷ t .expired ∷ drop 4 (now (part .entry)) ⌝ }
+    requires { ⌜ class-head ≤ length (now part) ⌝ }
+    ensures { λ _. ⌜ now (part .exit) ≡ t .entries ∷ t .holders ∷ t .units ∷ t .expired ∷ drop class-head (now (part .entry)) ⌝ }
 {
     part[layout::CLASS_ENTRIES] = t.entries;
     part[layout::CLASS_HOLDERS] = t.holders;

@@ -14,12 +14,13 @@ use Rattle.model.specs.Settings.{shares-fit, limits-fit}
 use Rattle.model.specs.Class.{class-of}
 use Rattle.model.specs.Book.{draw-test, entries-in, units}
 use Rattle.model.specs.BookWords.{distinct}
+use Rattle.model.specs.Words.{class-width}
 use Rattle.book.specs.ClassRules.{ClassIs, ClassTurns, drawn-class, returned}
 use Rattle.book.proofs.Finding.{class-is}
 use Rattle.book.proofs.Keeping.{drawn-stays, returned-stays}
 use Rattle.book_try.specs.Fixed.{fixed, twelve}
 
-pub starts : (ws : List ℕ) → ws ≡ replicate 36 0 → ClassIs fixed Feeders ws
+pub starts : (ws : List ℕ) → ws ≡ replicate (class-width fixed) 0 → ClassIs fixed Feeders ws
 unfolding shares-fit EachOk encUp entries-in units distinct
 starts ws e =
     class-is fixed Feeders ws refl

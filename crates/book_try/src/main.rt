@@ -6,13 +6,18 @@ use model::Draw;
 use model::Limits;
 use model::Second;
 use model::Shares;
+use numbers::layout;
 ghost use Prim.Native.Nat.{_≤_};
 ghost use mathlib.Core.Path.{_≡_};
 ghost use lib.ListN.{length};
 ghost use Rattle.model.specs.declared.Class.the-variants.{Feeders};
 ghost use Rattle.model.specs.Numbers.{top32};
+ghost use Rattle.model.specs.Words.{class-width};
 ghost use Rattle.book.specs.ClassRules.{ClassIs};
 ghost use Rattle.book_try.specs.Fixed.{fixed};
+
+// The words of the class.
+const WORDS: usize = layout::CLASS_HEAD + 4 * (2 * 2 + layout::PLACE_HEAD);
 
 fn print(n: u64, end: u8) {
     io::print_decimal(1, n);
@@ -45,7 +50,7 @@ fn number_of(d: Draw) -> u64 {
 
 // No places, and totals of 0.
 fn begin(words: &mut [u64])
-    requires { ⌜ length (now words) ≡ 36 ⌝ }
+    requires { ⌜ length (now words) ≡ class-width fixed ⌝ }
     ensures { λ _. ⌜ ClassIs fixed Feeders (now (words .exit)) ⌝ }
 {
     runs::clear_words(words);
@@ -108,7 +113,7 @@ fn takes(words: &mut [u64], id: u64, second: u64, times: u64)
 }
 
 fn main() {
-    let mut words = [0u64; 36];
+    let mut words = [0u64; WORDS];
     begin(&mut words);
     takes(&mut words, 7, 20, 12);
     takes(&mut words, 8, 10, 6);

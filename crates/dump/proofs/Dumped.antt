@@ -13,12 +13,14 @@ use Rattle.runs.specs.Combine.{EachOk}
 use Rattle.runs.proofs.Cases.{by-test}
 use Rattle.runs.proofs.Chunks.{length-flat}
 use Rattle.model.specs.declared.Usable.{Usable}
+use Rattle.model.specs.Widths.{generation-width}
 use Rattle.model.specs.Settings.{ring-of}
 use Rattle.model.specs.Register.{Register}
 use Rattle.model.specs.RegisterWords.{floor-flag, floor-word, heading-width, encode-heading, of-register, register-form}
 use Rattle.model.specs.Generation.{Generation, count}
 use Rattle.model.specs.GenerationWords.{encode-generation, GenerationOk}
 use Rattle.model.specs.Dump.{word-bytes, dumped-floor, held-generations, generations-words, class-words, dump-words, dump-bytes}
+use Rattle.model.specs.Most.{generation-most}
 use Rattle.model.proofs.BytesRead.{bytes-long}
 use Rattle.model.proofs.GenerationWords.{generation-wide, live-pad}
 use Rattle.model.proofs.DumpRead.{prints-length}
@@ -40,27 +42,27 @@ module _ (S : ℕ) (g : Generation) (fits : length (g .slots) ≤ S) where
 
 -- ---- a ring, from position i on
 module _ (S n : ℕ) where
-  front : (g : Generation) (us : List ℕ) → take (S + 4) (encode-generation S g ++ us) ≡ encode-generation S g
-  front g us = take-at (encode-generation S g) us (S + 4) (generation-wide S g)
+  front : (g : Generation) (us : List ℕ) → take (generation-width S) (encode-generation S g ++ us) ≡ encode-generation S g
+  front g us = take-at (encode-generation S g) us (generation-width S) (generation-wide S g)
 
-  behind : (g : Generation) (us : List ℕ) → drop (S + 4) (encode-generation S g ++ us) ≡ us
-  behind g us = drop-at (encode-generation S g) us (S + 4) (generation-wide S g)
+  behind : (g : Generation) (us : List ℕ) → drop (generation-width S) (encode-generation S g ++ us) ≡ us
+  behind g us = drop-at (encode-generation S g) us (generation-width S) (generation-wide S g)
 
   words-are : (i : ℕ) (gs : List Generation) → EachOk (GenerationOk S n) i gs
-      → parts-words (S + 4) (length gs) (flat (encode-generation S) gs) ≡ generations-words gs
+      → parts-words (generation-width S) (length gs) (flat (encode-generation S) gs) ≡ generations-words gs
   unfolding parts-words generations-words flat EachOk
   words-are i [] ok = refl
   words-are i (g ∷ gs) ok =
       rw (front g (flat (encode-generation S) gs), behind g (flat (encode-generation S) gs), words-are (suc i) gs (ok .1))
       (part-first S g (ok .0 .fits) gs)
 
-  held-are : (gs : List Generation) → parts-held (S + 4) (length gs) (flat (encode-generation S) gs) ≡ held-generations gs
+  held-are : (gs : List Generation) → parts-held (generation-width S) (length gs) (flat (encode-generation S) gs) ≡ held-generations gs
   unfolding parts-held held-generations flat
   held-are [] = refl
   held-are (g ∷ gs) = rw (behind g (flat (encode-generation S) gs), held-are gs)
 
   long-are : (i : ℕ) (gs : List Generation) → EachOk (GenerationOk S n) i gs
-      → parts-length (S + 4) (length gs) (flat (encode-generation S) gs) ≡ length (generations-words gs)
+      → parts-length (generation-width S) (length gs) (flat (encode-generation S) gs) ≡ length (generations-words gs)
   unfolding parts-length generations-words flat EachOk
   long-are i [] ok = refl
   long-are i (g ∷ gs) ok =
@@ -71,7 +73,7 @@ module _ (S n : ℕ) where
       (omega arith)
 
   bounds-are : (i : ℕ) (gs : List Generation) → EachOk (GenerationOk S n) i gs → S ≤ 1_024
-      → AllBounded (S + 4) (length gs) (flat (encode-generation S) gs)
+      → AllBounded (generation-width S) (length gs) (flat (encode-generation S) gs)
   unfolding AllBounded flat EachOk
   bounds-are i [] ok small = tt
   bounds-are i (g ∷ gs) ok small =
@@ -80,18 +82,18 @@ module _ (S n : ℕ) where
 
   -- all of it, of n positions
   module _ (gs : List Generation) (ok : (length gs ≡ n) × EachOk (GenerationOk S n) 0 gs) where
-    ring-long : length (flat (encode-generation S) gs) ≡ n * (S + 4)
-    ring-long = let l = length-flat (encode-generation S) (S + 4) (generation-wide S) gs in l ∙ ap (λ (m : ℕ). m * (S + 4)) (ok .0)
+    ring-long : length (flat (encode-generation S) gs) ≡ n * generation-width S
+    ring-long = let l = length-flat (encode-generation S) (generation-width S) (generation-wide S) gs in l ∙ ap (λ (m : ℕ). m * generation-width S) (ok .0)
 
-    pub ring-is : ring-words (S + 4) n (flat (encode-generation S) gs) ≡ class-words gs
+    pub ring-is : ring-words (generation-width S) n (flat (encode-generation S) gs) ≡ class-words gs
     unfolding ring-words class-words
     ring-is = rw (← ok .0, held-are gs) (ap (λ (l : List ℕ). held-generations gs ∷ l) (words-are 0 gs (ok .1)))
 
-    pub ring-counted : parts-length (S + 4) n (flat (encode-generation S) gs) + 1 ≡ length (class-words gs)
+    pub ring-counted : parts-length (generation-width S) n (flat (encode-generation S) gs) + 1 ≡ length (class-words gs)
     unfolding class-words
     ring-counted = let e = long-are 0 gs (ok .1) in let m = ok .0 in let q = rw m at e in omega arith
 
-    pub ring-laid : S ≤ 1_024 → n ≤ 256 → Laid (S + 4) n (flat (encode-generation S) gs)
+    pub ring-laid : S ≤ 1_024 → n ≤ 256 → Laid (generation-width S) n (flat (encode-generation S) gs)
     ring-laid small few =
         let b = bounds-are 0 gs (ok .1) small in
         let m = ok .0 in
@@ -121,7 +123,7 @@ floor-is (some f) = refl
 
 module _ (u : Usable) (reg : Register) (ok : register-form u .Ok reg) (ws : List ℕ) (is : ws ≡ register-form u .enc reg) where
   abbrev wide : ℕ
-  wide = u .slots + 4
+  wide = generation-width (u .slots)
 
   abbrev words-of-ring : List Generation → List ℕ
   words-of-ring gs = flat (encode-generation (u .slots)) gs
@@ -196,7 +198,7 @@ module _ (u : Usable) (reg : Register) (ok : register-form u .Ok reg) (ws : List
       let m = length-append b c in
       let t = length-append (reg .spare) (a ++ (b ++ c)) in
       let h : length ws ≡ heading-width + 3 * (ring-of u * wide) = rw is (omega arith) in
-      let most : wide ≤ 1_028 = omega arith in
+      let most : wide ≤ generation-most = omega arith in
       record {
         wide = omega arith;
         narrow = most;

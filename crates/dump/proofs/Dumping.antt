@@ -12,11 +12,13 @@ use lib.Seq.{drop-cons, drop-drop, getD-drop}
 use borrow.Author.Tests.{eq-eqb, ne-eqb}
 use borrow.Rule.Slice.PartMut.{midOf}
 use Rattle.runs.proofs.Cases.{by-test}
+use Rattle.model.specs.Widths.{generation-head, generation-width}
 use Rattle.model.specs.RegisterWords.{heading-width}
 use Rattle.model.specs.Numbers.{top64, cap64}
 use Rattle.model.specs.Dump.{word-bytes, dumped-floor, fingerprints}
 use Rattle.generation.specs.declared.Generation.{Generation as Leading}
 use Rattle.generation.specs.Words.{Bounded, Leads}
+use Rattle.generation.proofs.Looking.{lent-slots}
 use Rattle.dump.specs.Bytes.{written, Fits, Puts}
 use Rattle.dump.specs.Parts.{part-words, part-length, parts-words, parts-length, parts-held, ring-words, AllBounded, Laid, floor-of, ring-at, register-words}
 use Rattle.dump.proofs.Writing.{Writes, writes-start, writes-fits, writes-on, writes-end, writes-last, puts-none, puts-one}
@@ -69,29 +71,29 @@ module _ (ws : List ℕ) (g : Leading) (l : Leads ws g) (p : ℕ) where
 
   module _ (n : g .held ≡ 0 → ⊥) {out : List ℕ} (f : Fits p (part-words ws) out) where
     -- the words that lead, and then the fingerprints of the slots as they are lent
-    part-split : part-words ws ≡ (g .bucket ∷ g .newest ∷ g .held ∷ []) ++ fingerprints (midOf 4 (g .slots + 4 - 4) ws)
+    part-split : part-words ws ≡ (g .bucket ∷ g .newest ∷ g .held ∷ []) ++ fingerprints (lent-slots (g .slots) ws)
     unfolding part-words
     part-split =
-        let e : g .slots + 4 - 4 ≡ getD ws 0 0 = let q = l .slots in omega arith in
+        let e : generation-width (g .slots) - generation-head ≡ getD ws 0 0 = let q = l .slots in omega arith in
         rw (ne-eqb (getD ws 1 0) 0 (λ z. n (l .held ∙ z)), e, l .bucket, l .newest, l .held)
 
     pub lead-fits : Fits p (g .bucket ∷ g .newest ∷ g .held ∷ []) out
     lead-fits =
-        writes-fits (g .bucket ∷ g .newest ∷ g .held ∷ []) (fingerprints (midOf 4 (g .slots + 4 - 4) ws))
+        writes-fits (g .bucket ∷ g .newest ∷ g .held ∷ []) (fingerprints (lent-slots (g .slots) ws))
         (rw part-split at (writes-start f))
 
     module _ {mid : List ℕ} {q : ℕ} (d : Puts p (g .bucket ∷ g .newest ∷ g .held ∷ []) out mid q) where
-      lead-on : Writes q (fingerprints (midOf 4 (g .slots + 4 - 4) ws)) mid p (part-words ws) out
+      lead-on : Writes q (fingerprints (lent-slots (g .slots) ws)) mid p (part-words ws) out
       lead-on =
           let s = writes-start f in
-          writes-on (g .bucket ∷ g .newest ∷ g .held ∷ []) (fingerprints (midOf 4 (g .slots + 4 - 4) ws))
+          writes-on (g .bucket ∷ g .newest ∷ g .held ∷ []) (fingerprints (lent-slots (g .slots) ws))
           (subst (λ (us : List ℕ). Writes p us out p (part-words ws) out) part-split s) d
 
-      pub prints-fit : Fits q (fingerprints (midOf 4 (g .slots + 4 - 4) ws)) mid
+      pub prints-fit : Fits q (fingerprints (lent-slots (g .slots) ws)) mid
       prints-fit = record { room = lead-on .room }
 
-      pub part-puts : {after : List ℕ} {r : ℕ} → Puts q (fingerprints (midOf 4 (g .slots + 4 - 4) ws)) mid after r → Puts p (part-words ws) out after r
-      part-puts e = writes-last (fingerprints (midOf 4 (g .slots + 4 - 4) ws)) lead-on e
+      pub part-puts : {after : List ℕ} {r : ℕ} → Puts q (fingerprints (lent-slots (g .slots) ws)) mid after r → Puts p (part-words ws) out after r
+      part-puts e = writes-last (fingerprints (lent-slots (g .slots) ws)) lead-on e
 
 -- ---- floor_told
 pub told-none : (flag floor : ℕ) → (flag ≡ 1 → ⊥) → 0 ≡ floor-of flag floor

@@ -4,9 +4,11 @@ use mathlib.Core.Bool.{cond}
 use mathlib.Core.List.{List, [], _∷_, _++_}
 use lib.Dec.{eqb}
 use lib.ListN.{length, getD, take, drop}
+use Rattle.model.specs.Widths.{generation-head}
 use Rattle.model.specs.GenerationWords.{live-slots}
 use Rattle.model.specs.RegisterWords.{heading-width, read-floor}
 use Rattle.model.specs.Dump.{dumped-floor, fingerprints}
+use Rattle.model.specs.Most.{generation-most, ring-most}
 use Rattle.generation.specs.Words.{Bounded}
 
 -- ---- one generation's words
@@ -38,7 +40,7 @@ AllBounded k zero ws = Unit {0}
 AllBounded k (suc n) ws = Bounded (take k ws) × AllBounded k n (drop k ws)
 
 pub record Laid (k n : ℕ) (ws : List ℕ) : Type 0 where
-  pub wide : 4 ≤ k
+  pub wide : generation-head ≤ k
   pub few : n ≤ 256
   pub long : n * k ≤ length ws
   pub bounded : AllBounded k n ws
@@ -60,10 +62,10 @@ register-long k n ws =
     8 * (4 + parts-length k n (ring-at k n 0 ws) + parts-length k n (ring-at k n 1 ws) + parts-length k n (ring-at k n 2 ws))
 
 pub record LaidOut (k n : ℕ) (ws : List ℕ) : Type 0 where
-  pub wide : 4 ≤ k
-  pub narrow : k ≤ 1_028
+  pub wide : generation-head ≤ k
+  pub narrow : k ≤ generation-most
   pub few : n ≤ 256
-  pub ring : n * k ≤ 263_168
+  pub ring : n * k ≤ ring-most
   pub long : heading-width + 3 * (n * k) ≤ length ws
   pub feeders : Laid k n (ring-at k n 0 ws)
   pub peers : Laid k n (ring-at k n 1 ws)

@@ -16,6 +16,7 @@ use Rattle.model.specs.declared.Shares.{Shares}
 use Rattle.runs.specs.Chunks.{flat}
 use Rattle.runs.specs.Combine.{encUp}
 use Rattle.model.specs.Numbers.{cap32}
+use Rattle.model.specs.Widths.{class-head, place-width}
 use Rattle.model.specs.Book.{Place, Held, entries-in, units, later-places, expire-class}
 use Rattle.model.specs.BookWords.{encode-place, place-form, class-form}
 use Rattle.model.proofs.Places.{PlacesOk}
@@ -70,7 +71,7 @@ module _ (b : Shares) (c : Class) (t : ℕ) (ws : List ℕ) (cl : ClassIs b c ws
       let m = cl .holders in
       let o = cl .places in
       let g = walk .size in
-      let y = ap (λ (z : ℕ). z * (2 * b .pairs + 4)) (walk .places) in
+      let y = ap (λ (z : ℕ). z * place-width (b .pairs)) (walk .places) in
       let z = walk .places in
       let wi = in-part b c ws cl i h in
       let fl = first-length b c t i ps each in
@@ -87,7 +88,7 @@ module _ (b : Shares) (c : Class) (t : ℕ) (ws : List ℕ) (cl : ClassIs b c ws
         ps = ps;
         rest = rest-of b (cl .is .value);
         walk = walk;
-        four = refl;
+        totals = refl;
         ok = each;
         below = omega arith;
         index = omega arith;
@@ -117,10 +118,10 @@ module _ (b : Shares) (c : Class) (t : ℕ) (ws : List ℕ) (cl : ClassIs b c ws
   kept = later-places t (cl .is .value .places)
 
   abbrev W : ℕ
-  W = 2 * b .pairs + 4
+  W = place-width (b .pairs)
 
   abbrev rest : List ℕ
-  rest = replicate ((b .places - length (cl .is .value .places)) * (2 * b .pairs + 4)) 0
+  rest = replicate ((b .places - length (cl .is .value .places)) * place-width (b .pairs)) 0
 
   -- what the walk says, of all places
   pub record Done (seen : List ℕ) : Type 0 where
@@ -166,7 +167,7 @@ module _ (b : Shares) (c : Class) (t : ℕ) (ws : List ℕ) (cl : ClassIs b c ws
   all-few : length all ≤ b .places
   all-few = cl .is .ok .1 .0 .0
 
-  front-long : length (lead-of b (cl .is .value) ++ flat encode-place kept) ≡ 4 + k .places * W
+  front-long : length (lead-of b (cl .is .value) ++ flat encode-place kept) ≡ class-head + k .places * W
   front-long =
       let l = length-append (lead-of b (cl .is .value)) (flat encode-place kept) in
       let f = flat-long c (b .pairs) 0 kept kept-fine in
@@ -213,7 +214,7 @@ module _ (b : Shares) (c : Class) (t : ℕ) (ws : List ℕ) (cl : ClassIs b c ws
       let su = ap (λ (z : Totals). z .units) e ∙ ap (λ (y : List ℕ). getD y 2 0) (cl .is .words) in
       (omega arith, omega arith, omega arith)
 
-  module _ (a e : ℕ) (ha : a ≡ 4 + k .places * W) (he : e ≡ 4 + getD ws 1 0 * W) (zs : List ℕ) (is : zs ≡ replicate (length (midOf a (e - a) now)) 0) where
+  module _ (a e : ℕ) (ha : a ≡ class-head + k .places * W) (he : e ≡ class-head + getD ws 1 0 * W) (zs : List ℕ) (is : zs ≡ replicate (length (midOf a (e - a) now)) 0) where
     gap-is : length (done .gap) ≡ e - a
     gap-is = let g = gap-long in omega arith
 
@@ -226,17 +227,17 @@ module _ (b : Shares) (c : Class) (t : ℕ) (ws : List ℕ) (cl : ClassIs b c ws
         ap₂ (putMid a (e - a)) (done .words) z
         ∙ put-of (lead-of b (cl .is .value) ++ flat encode-place kept) (done .gap) rest (replicate (length (done .gap)) 0) a (e - a) (front-long ∙ sym ha) gap-is
 
-    body : drop 4 (putMid a (e - a) now zs) ≡ encUp (place-form c (b .pairs)) (b .places) kept
+    body : drop class-head (putMid a (e - a) now zs) ≡ encUp (place-form c (b .pairs)) (b .places) kept
     body =
         let f = kept-few in
         let g = all-few in
-        ap (drop 4) cleared
+        ap (drop class-head) cleared
         ∙ ap (λ (y : List ℕ). flat encode-place kept ++ y)
         (replicate-append-replicate (length (done .gap)) ((b .places - length all) * W) 0 ∙ ap (λ (n : ℕ). replicate n 0) zeros-are)
         ∙ sym (up-flat c (b .pairs) (b .places) kept (omega arith))
 
     pub ends : (s left : Totals) → s ≡ totals-in ws → left ≡ expired-to s (s .entries - k .entries) (s .holders - k .places) (s .units - k .units) t
-        → ClassTurns b c (freed-to t) (λ h. tt {0}) ws (left .entries ∷ left .holders ∷ left .units ∷ left .expired ∷ drop 4 (putMid a (e - a) now zs)) (tt {0})
+        → ClassTurns b c (freed-to t) (λ h. tt {0}) ws (left .entries ∷ left .holders ∷ left .units ∷ left .expired ∷ drop class-head (putMid a (e - a) now zs)) (tt {0})
     ends s left is-read is-left =
         let d = done in
         let w = kept-within s is-read in
@@ -244,7 +245,7 @@ module _ (b : Shares) (c : Class) (t : ℕ) (ws : List ℕ) (cl : ClassIs b c ws
         let m : s .holders - (s .holders - k .places) ≡ length kept = let f = d .places in omega arith in
         let u : s .units - (s .units - k .units) ≡ units b kept = let f = d .units in omega arith in
         let y : left ≡ totals-of b (freed-to t (cl .is .value)) = is-left ∙ (λ i. record { entries = n i; holders = m i; units = u i; expired = t }) in
-        turns-one b c ws (cl .is) (class-words b c (freed-to t (cl .is .value)) left (drop 4 (putMid a (e - a) now zs)) y body) refl
+        turns-one b c ws (cl .is) (class-words b c (freed-to t (cl .is .value)) left (drop class-head (putMid a (e - a) now zs)) y body) refl
 
 -- ---- the rule for a clock that stepped back
 module _ (b : Shares) (c : Class) (t : ℕ) (ws : List ℕ) (cl : ClassIs b c ws) where
@@ -252,7 +253,7 @@ module _ (b : Shares) (c : Class) (t : ℕ) (ws : List ℕ) (cl : ClassIs b c ws
   expired-is = ap (λ (l : List ℕ). getD l 3 0) (cl .is .words)
 
   pub noted : cap32 (t + 2) < getD ws 3 0 → (s left : Totals) → s ≡ totals-in ws → left ≡ expired-to s 0 0 0 t
-      → ClassTurns b c (expire-class t) (λ h. tt {0}) ws (left .entries ∷ left .holders ∷ left .units ∷ left .expired ∷ drop 4 ws) (tt {0})
+      → ClassTurns b c (expire-class t) (λ h. tt {0}) ws (left .entries ∷ left .holders ∷ left .units ∷ left .expired ∷ drop class-head ws) (tt {0})
   unfolding expire-class
   noted h s left is-read is-left =
       let e = lt-ltb (cap32 (t + 2)) (cl .is .value .expired) (let x = expired-is in omega arith) in
@@ -265,7 +266,7 @@ module _ (b : Shares) (c : Class) (t : ℕ) (ws : List ℕ) (cl : ClassIs b c ws
       let y : left ≡ totals-of b (record { places = cl .is .value .places; expired = t }) =
       is-left ∙ none ∙ ap (λ (z : Totals). record { entries = z .entries; holders = z .holders; units = z .units; expired = t }) (is-read ∙ was) in
       turns-one b c ws (cl .is)
-      (class-words b c (record { places = cl .is .value .places; expired = t }) left (drop 4 ws) y (ap (drop 4) (cl .is .words)) ∙ rw e)
+      (class-words b c (record { places = cl .is .value .places; expired = t }) left (drop class-head ws) y (ap (drop class-head) (cl .is .words)) ∙ rw e)
       refl
 
   module _ (fresh : getD ws 3 0 ≤ cap32 (t + 2)) where

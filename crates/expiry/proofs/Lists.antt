@@ -7,6 +7,7 @@ use lib.ListN.{length, getD, take, drop, replicate, length-append, length-drop, 
 use lib.Seq.{take-suc}
 use Rattle.model.specs.declared.Class.{Class}
 use Rattle.model.specs.declared.Shares.{Shares}
+use Rattle.model.specs.Widths.{place-width}
 use Rattle.model.specs.Book.{Pair, Place, total, entries-in, units, with-pairs, keep-place, later-pairs, later-places}
 use Rattle.model.specs.BookWords.{encode-place, PlaceOk}
 use Rattle.model.proofs.BookWords.{length-pairs}
@@ -58,7 +59,7 @@ module _ (t i : ℕ) (ps : List Place) (h : i < length ps) where
 
 -- ---- a place with fewer pairs takes as many words
 pub fewer-long : (c : Class) (E : ℕ) (qs : List Pair) (p : Place) → PlaceOk c E p → length qs ≤ length (p .pairs)
-    → length (encode-place (with-pairs qs p)) ≡ 2 * E + 4
+    → length (encode-place (with-pairs qs p)) ≡ place-width E
 unfolding with-pairs
 fewer-long c E qs p ok h =
     let k = ok .cells in

@@ -14,6 +14,7 @@ use Rattle.runs.specs.Chunks.{flat}
 use Rattle.runs.specs.Turns.{Turns}
 use Rattle.runs.proofs.Chunks.{flat-append}
 use Rattle.runs.proofs.Each.{each-at}
+use Rattle.model.specs.Widths.{class-head, place-head, place-width}
 use Rattle.model.specs.Book.{Pair, Place, total, entries, entries-in, place-units, units, with-pairs, later-pairs, later-places}
 use Rattle.model.specs.BookWords.{most-entries, encode-place, PlaceOk}
 use Rattle.model.proofs.BookWords.{read-flat, named-back}
@@ -31,9 +32,9 @@ use Rattle.expiry.proofs.Lists.{later-gone, later-here, fewer-long, kep
 
 -- ---- place i in words of which the places before it have been seen
 module _ (b : Shares) (c : Class) (t i : ℕ) (lead : List ℕ) (ps : List Place) (rest : List ℕ) (k : Kept) (ws : List ℕ)
-    (four : length lead ≡ 4) (ok : PlacesOk c (b .pairs) 0 ps) (below : i < length ps) (w : Walk b t i lead ps rest k ws) where
+    (totals : length lead ≡ class-head) (ok : PlacesOk c (b .pairs) 0 ps) (below : i < length ps) (w : Walk b t i lead ps rest k ws) where
   abbrev W : ℕ
-  W = 2 * b .pairs + 4
+  W = place-width (b .pairs)
 
   abbrev p : Place
   p = getD ps i nobody
@@ -51,7 +52,7 @@ module _ (b : Shares) (c : Class) (t i : ℕ) (lead : List ℕ) (ps : List Place
   fine : PlaceOk c (b .pairs) p
   fine = each-at (λ (j : ℕ). PlaceOk c (b .pairs)) ps i nobody ok below
 
-  u-long : length u ≡ 4 + k .places * W
+  u-long : length u ≡ class-head + k .places * W
   u-long =
       let l = length-append lead (flat encode-place kept) in
       let f = flat-long c (b .pairs) 0 kept (kept-ok b c t i ps ok) in
@@ -61,7 +62,7 @@ module _ (b : Shares) (c : Class) (t i : ℕ) (lead : List ℕ) (ps : List Place
   gap-long : k .places * W + length (w .gap) ≡ i * W
   gap-long = let m = ap (λ (n : ℕ). n * W) (w .places) in let s = w .size in omega arith
 
-  until-long : length (u ++ w .gap) ≡ 4 + i * W
+  until-long : length (u ++ w .gap) ≡ class-head + i * W
   until-long = let l = length-append u (w .gap) in let a = u-long in let g = gap-long in omega arith
 
   after-here : flat encode-place (drop i ps) ++ rest ≡ encode-place p ++ v
@@ -72,7 +73,7 @@ module _ (b : Shares) (c : Class) (t i : ℕ) (lead : List ℕ) (ps : List Place
   cut : ws ≡ (u ++ w .gap) ++ (encode-place p ++ v)
   cut = w .words ∙ ap (λ (l : List ℕ). u ++ (w .gap ++ l)) after-here ∙ sym (append-assoc u (w .gap) (encode-place p ++ v))
 
-  module _ (a e : ℕ) (ha : a ≡ 4 + i * W) (he : e ≡ a + W) where
+  module _ (a e : ℕ) (ha : a ≡ class-head + i * W) (he : e ≡ a + W) where
     size : e - a ≡ W
     size = omega arith
 
@@ -126,11 +127,11 @@ module _ (b : Shares) (c : Class) (t i : ℕ) (lead : List ℕ) (ps : List Place
       again : midOf a (e - a) (putMid a (e - a) ws ys) ≡ encode-place q
       again = ap (midOf a (e - a)) mid-is ∙ rw size (mid-of (u ++ w .gap) (encode-place q) v a W (until-long ∙ sym ha) q-long)
 
-      pub with-asks : (4 ≤ length (midOf a (e - a) (putMid a (e - a) ws ys))) × (getD (midOf a (e - a) (putMid a (e - a) ws ys)) 2 0 ≤ most-entries)
+      pub with-asks : (place-head ≤ length (midOf a (e - a) (putMid a (e - a) ws ys))) × (getD (midOf a (e - a) (putMid a (e - a) ws ys)) 2 0 ≤ most-entries)
       unfolding with-pairs
       with-asks = rw again (let n = q-long in omega arith, let f = fine .few in let l = total-later t (p .pairs) in omega arith)
 
-      module _ (j : ℕ) (hj : j ≡ 4 + k .places * W) (zs : List ℕ)
+      module _ (j : ℕ) (hj : j ≡ class-head + k .places * W) (zs : List ℕ)
           (is : zs ≡ drop (a - j) (midOf j (e - j) (putMid a (e - a) ws ys))
           ++ drop (length (midOf j (e - j) (putMid a (e - a) ws ys)) - (a - j)) (midOf j (e - j) (putMid a (e - a) ws ys))) where
         abbrev m : List ℕ
@@ -212,23 +213,23 @@ module _ (b : Shares) (c : Class) (t i : ℕ) (lead : List ℕ) (ps : List Place
               })
 
 -- ---- the same as contracts: what the calls ask, and what is left
-module _ (b : Shares) (c : Class) (t i : ℕ) (k : Kept) (ws : List ℕ) (a e : ℕ) (ha : a ≡ 4 + i * (2 * b .pairs + 4)) (he : e ≡ a + (2 * b .pairs + 4)) where
+module _ (b : Shares) (c : Class) (t i : ℕ) (k : Kept) (ws : List ℕ) (a e : ℕ) (ha : a ≡ class-head + i * place-width (b .pairs)) (he : e ≡ a + place-width (b .pairs)) where
   pub asks-expire : Standing b c t i k ws → Wide (midOf a (e - a) ws) × (total (pairs-in (midOf a (e - a) ws)) ≡ getD (midOf a (e - a) ws) 2 0)
-  asks-expire s = expire-asks b c t i (s .lead) (s .ps) (s .rest) k ws (s .four) (s .ok) (s .below) (s .walk) a e ha he (s .pairs)
+  asks-expire s = expire-asks b c t i (s .lead) (s .ps) (s .rest) k ws (s .totals) (s .ok) (s .below) (s .walk) a e ha he (s .pairs)
 
   module _ (ys : List ℕ) (left : Left) (x : Turns encode-place Sums (later-place t) (left-of t) (midOf a (e - a) ws) ys left) where
     pub asks-with : Standing b c t i k ws
-        → (4 ≤ length (midOf a (e - a) (putMid a (e - a) ws ys))) × (getD (midOf a (e - a) (putMid a (e - a) ws ys)) 2 0 ≤ most-entries)
-    asks-with s = with-asks b c t i (s .lead) (s .ps) (s .rest) k ws (s .four) (s .ok) (s .below) (s .walk) a e ha he ys left x
+        → (place-head ≤ length (midOf a (e - a) (putMid a (e - a) ws ys))) × (getD (midOf a (e - a) (putMid a (e - a) ws ys)) 2 0 ≤ most-entries)
+    asks-with s = with-asks b c t i (s .lead) (s .ps) (s .rest) k ws (s .totals) (s .ok) (s .below) (s .walk) a e ha he ys left x
 
     pub place-goes : left .pairs ≡ 0 → Steps b c t i k ws (putMid a (e - a) ws ys) k
-    place-goes z = record { does = λ lead ps rest four ok below w. goes b c t i lead ps rest k ws four ok below w a e ha he ys left x z }
+    place-goes z = record { does = λ lead ps rest totals ok below w. goes b c t i lead ps rest k ws totals ok below w a e ha he ys left x z }
 
-    pub place-stays : (left .pairs ≡ 0 → ⊥) → (j : ℕ) → j ≡ 4 + k .places * (2 * b .pairs + 4) → (zs : List ℕ)
+    pub place-stays : (left .pairs ≡ 0 → ⊥) → (j : ℕ) → j ≡ class-head + k .places * place-width (b .pairs) → (zs : List ℕ)
         → zs ≡ drop (a - j) (midOf j (e - j) (putMid a (e - a) ws ys))
         ++ drop (length (midOf j (e - j) (putMid a (e - a) ws ys)) - (a - j)) (midOf j (e - j) (putMid a (e - a) ws ys))
         → (r : Kept) → r ≡ with-words b c (midOf a (e - a) (putMid a (e - a) ws ys)) k
         → Steps b c t i k ws (putMid j (e - j) (putMid a (e - a) ws ys) zs) r
     place-stays some j hj zs is r hr = record {
-      does = λ lead ps rest four ok below w. stays b c t i lead ps rest k ws four ok below w a e ha he ys left x j hj zs is r hr some;
+      does = λ lead ps rest totals ok below w. stays b c t i lead ps rest k ws totals ok below w a e ha he ys left x j hj zs is r hr some;
     }

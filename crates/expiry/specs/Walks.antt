@@ -7,6 +7,7 @@ use Rattle.model.specs.declared.Class.{Class}
 use Rattle.model.specs.declared.Shares.{Shares}
 use Rattle.runs.specs.Chunks.{flat}
 use Rattle.runs.specs.Combine.{EachOk}
+use Rattle.model.specs.Widths.{class-head, place-width}
 use Rattle.model.specs.Book.{Place, Held, entries-in, place-units, units, later-places}
 use Rattle.model.specs.BookWords.{most-entries, read-who, encode-place, PlaceOk, class-form}
 use Rattle.expiry.specs.declared.Kept.{Kept}
@@ -23,7 +24,7 @@ with-words b c ws k = record {
 pub record Walk (b : Shares) (t i : ℕ) (lead : List ℕ) (ps : List Place) (rest : List ℕ) (k : Kept) (ws : List ℕ) : Type 0 where
   pub gap : List ℕ
   pub words : ws ≡ (lead ++ flat encode-place (later-places t (take i ps))) ++ (gap ++ (flat encode-place (drop i ps) ++ rest))
-  pub size : length (later-places t (take i ps)) * (2 * b .pairs + 4) + length gap ≡ i * (2 * b .pairs + 4)
+  pub size : length (later-places t (take i ps)) * place-width (b .pairs) + length gap ≡ i * place-width (b .pairs)
   pub places : k .places ≡ length (later-places t (take i ps))
   pub entries : k .entries ≡ entries-in (later-places t (take i ps))
   pub units : k .units ≡ units b (later-places t (take i ps))
@@ -34,30 +35,30 @@ pub record Standing (b : Shares) (c : Class) (t i : ℕ) (k : Kept) (ws : List �
   pub ps : List Place
   pub rest : List ℕ
   pub walk : Walk b t i lead ps rest k ws
-  pub four : length lead ≡ 4
+  pub totals : length lead ≡ class-head
   pub ok : EachOk (λ (j : ℕ). PlaceOk c (b .pairs)) 0 ps
   pub below : i < length ps
   pub index : i ≤ 64
   pub pairs : b .pairs ≤ 512
   pub feeder : b .feeder ≤ 4_096
   pub peer : b .peer ≤ 4_096
-  pub within : 4 + i * (2 * b .pairs + 4) + (2 * b .pairs + 4) ≤ length ws
-  pub behind : k .places * (2 * b .pairs + 4) ≤ i * (2 * b .pairs + 4)
+  pub within : class-head + i * place-width (b .pairs) + place-width (b .pairs) ≤ length ws
+  pub behind : k .places * place-width (b .pairs) ≤ i * place-width (b .pairs)
   pub places : k .places ≤ 64
   pub entries : k .entries ≤ most-entries
   pub units : k .units ≤ 2_262_144
 
 -- and has been seen
 pub record Steps (b : Shares) (c : Class) (t i : ℕ) (k : Kept) (before after : List ℕ) (r : Kept) : Type 0 where
-  pub does : (lead : List ℕ) (ps : List Place) (rest : List ℕ) → length lead ≡ 4 → EachOk (λ (j : ℕ). PlaceOk c (b .pairs)) 0 ps → i < length ps
+  pub does : (lead : List ℕ) (ps : List Place) (rest : List ℕ) → length lead ≡ class-head → EachOk (λ (j : ℕ). PlaceOk c (b .pairs)) 0 ps → i < length ps
       → Walk b t i lead ps rest k before → Walk b t (suc i) lead ps rest r after
 
--- a class's four totals, and the zeros after its places
+-- a class's totals, and the zeros after its places
 abbrev pub lead-of : Shares → Held → List ℕ
 lead-of b h = entries-in (h .places) ∷ length (h .places) ∷ units b (h .places) ∷ h .expired ∷ []
 
 abbrev pub rest-of : Shares → Held → List ℕ
-rest-of b h = replicate ((b .places - length (h .places)) * (2 * b .pairs + 4)) 0
+rest-of b h = replicate ((b .places - length (h .places)) * place-width (b .pairs)) 0
 
 -- the words of a class, of which i places have been seen
 pub record Walking (b : Shares) (c : Class) (t : ℕ) (before : List ℕ) (i : ℕ) (k : Kept) (ws : List ℕ) : Type 0 where

@@ -4,6 +4,7 @@ ghost use Prim.Native.Nat.{_+_, _≤_};
 ghost use mathlib.Core.Path.{_≡_};
 ghost use lib.ListN.{length, getD};
 ghost use Rattle.model.specs.Numbers.{top32};
+ghost use Rattle.model.specs.Widths.{place-head};
 ghost use Rattle.model.specs.Book.{expire-class};
 ghost use Rattle.model.specs.BookWords.{most-entries};
 ghost use Rattle.book.specs.ClassRules.{ClassIs, ClassTurns};
@@ -28,7 +29,7 @@ struct Kept {
 
 // The kept places with one more.
 fn with_place(place: &[u64], shares: Shares, class: Class, kept: Kept) -> Kept
-    requires { ⌜ (4 ≤ length (now place)) × (getD (now place) 2 0 ≤ most-entries) × (shares .feeder ≤ 4_096) × (shares .peer ≤ 4_096) × (kept .places ≤ 64) × (kept .entries ≤ most-entries) × (kept .units ≤ 2_262_144) ⌝ }
+    requires { ⌜ (place-head ≤ length (now place)) × (getD (now place) 2 0 ≤ most-entries) × (shares .feeder ≤ 4_096) × (shares .peer ≤ 4_096) × (kept .places ≤ 64) × (kept .entries ≤ most-entries) × (kept .units ≤ 2_262_144) ⌝ }
     ensures { λ r. ⌜ r ≡ with-words shares class (now (place .entry)) kept ⌝ }
 {
     let entries = place[layout::PLACE_ENTRIES];

@@ -14,11 +14,11 @@ use Rattle.book.specs.ClassRules.{ClassIs}
 use Rattle.book.proofs.Finding.{class-is}
 use Rattle.expiry_try.specs.Fixed.{fixed}
 
-pub in-bounds : (b : Shares) → b ≡ fixed → (n : ℕ) → n ≡ 34 → (shares-fit b ≡ true) × (n ≡ class-width b)
+pub in-bounds : (b : Shares) → b ≡ fixed → (n : ℕ) → n ≡ class-width fixed → (shares-fit b ≡ true) × (n ≡ class-width b)
 unfolding shares-fit
 in-bounds b is n long = rw is (refl, long)
 
-pub is-class : (ws : List ℕ) → length ws ≡ 34 → class-form fixed Feeders .test ws ≡ true → ClassIs fixed Feeders ws
+pub is-class : (ws : List ℕ) → length ws ≡ class-width fixed → class-form fixed Feeders .test ws ≡ true → ClassIs fixed Feeders ws
 unfolding shares-fit
 is-class ws long sound =
     let q = class-exact fixed Feeders .back ws long sound in

@@ -5,6 +5,7 @@
 use model::Class;
 use model::Second;
 use model::Shares;
+use numbers::layout;
 ghost use Prim.Native.Nat.{_≤_, _<_};
 ghost use mathlib.Core.Path.{_≡_};
 ghost use mathlib.Core.Bool.{true};
@@ -13,6 +14,9 @@ ghost use Rattle.model.specs.declared.Class.the-variants.{Feeders};
 ghost use Rattle.model.specs.Numbers.{top32};
 ghost use Rattle.book.specs.ClassRules.{ClassIs};
 ghost use Rattle.expiry_try.specs.Fixed.{fixed};
+
+// The words of the class.
+const WORDS: usize = layout::CLASS_HEAD + 3 * (2 * 3 + layout::PLACE_HEAD);
 
 fn print(n: u64, end: u8) {
     io::print_decimal(1, n);
@@ -57,7 +61,7 @@ fn shares() -> Shares
 fn is_class(words: &[u64]) -> bool
     ensures { λ r. ⌜ (r ≡ true → ClassIs fixed Feeders (now (words .entry))) ⌝ }
 {
-    if words.len() != 34 {
+    if words.len() != WORDS {
         return false;
     }
     audit::class_sound(words, shares(), Class::Feeders)

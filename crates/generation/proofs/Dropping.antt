@@ -6,10 +6,10 @@ use mathlib.Core.List.{List, []}
 use lib.ListN.{length, getD, replicate, replicate-append-replicate}
 use lib.Dec.{eqb}
 use borrow.Author.Tests.{eq-eqb, ne-eqb, eqb-true, lt-ltb, le-ltb}
-use borrow.Rule.Slice.PartMut.{putMid, midOf}
 use Rattle.runs.specs.Words.{pad}
 use Rattle.runs.proofs.Cases.{by-test}
 use Rattle.runs.proofs.Words.{pad-fits}
+use Rattle.model.specs.Widths.{generation-head, generation-width}
 use Rattle.model.specs.Generation.{Generation, count, dropped}
 use Rattle.model.specs.GenerationWords.{encode-generation, GenerationOk}
 use Rattle.model.specs.Register.{passed}
@@ -20,7 +20,7 @@ use Rattle.generation.specs.declared.Dropped.{Dropped}
 use Rattle.generation.specs.declared.Dropped.the-variants.{Nothing, Newest}
 use Rattle.generation.specs.Rules.{drop-says, dropped-in, drop-in-says, swept-at, sweep-says}
 use Rattle.generation.specs.Words.{Leads, led-by, GenerationTurns}
-use Rattle.generation.proofs.Looking.{slots-part}
+use Rattle.generation.proofs.Looking.{lent-slots, with-lent, slots-part}
 
 -- one that holds nothing is as it would be dropped
 none-held : (S n i : ℕ) (g : Generation) → GenerationOk S n i g → count (g .slots) ≡ 0 → dropped g ≡ g
@@ -38,16 +38,16 @@ module _ (ws : List ℕ) (h : Leading) (leads : Leads ws h) where
         (is ∙ sym (ap (encode-generation S) (none-held S n i g ok c)), rw (eq-eqb (count (g .slots)) 0 c));
   }
 
-  pub drops-all : (h .held ≡ 0 → ⊥) → (ys : List ℕ) → ys ≡ replicate (length (midOf 4 (h .slots + 4 - 4) ws)) 0
+  pub drops-all : (h .held ≡ 0 → ⊥) → (ys : List ℕ) → ys ≡ replicate (length (lent-slots (h .slots) ws)) 0
       → (next : Leading) → next ≡ record { slots = 0; held = 0; newest = 0; bucket = h .bucket }
-      → GenerationTurns dropped drop-says ws (led-by next (putMid 4 (h .slots + 4 - 4) ws ys)) (Newest (h .newest))
+      → GenerationTurns dropped drop-says ws (led-by next (with-lent (h .slots) ws ys)) (Newest (h .newest))
   unfolding dropped count
   drops-all some ys y next x S n i = record {
     does = λ g ok is.
         let m = length (g .slots) in
         let fits = ok .fits in
         let live = slots-part S g fits ws is (h .slots) (leads .slots) in
-        let k : h .slots + 4 - 4 ≡ m = let l = ap (λ (l : List ℕ). getD l 0 0) is in let e = leads .slots in omega arith in
+        let k : generation-width (h .slots) - generation-head ≡ m = let l = ap (λ (l : List ℕ). getD l 0 0) is in let e = leads .slots in omega arith in
         let held : count (g .slots) ≡ 0 → ⊥ = λ z. some (leads .held ∙ ap (λ (l : List ℕ). getD l 1 0) is ∙ z) in
         let s : m + (S - m) ≡ S = omega arith in
         let o : S - 0 ≡ S = omega arith in

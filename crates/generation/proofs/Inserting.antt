@@ -10,6 +10,7 @@ use borrow.Rule.Slice.PartMut.{putMid, midOf}
 use Rattle.runs.specs.Words.{pad}
 use Rattle.runs.proofs.Words.{length-pad, drop-zeros, pad-fits}
 use Rattle.runs.proofs.Firsts.{firsts-are}
+use Rattle.model.specs.Widths.{generation-head, generation-width}
 use Rattle.model.specs.Generation.{count, among, put, grown, slots-for, insert}
 use Rattle.model.proofs.Probing.{put-length}
 use Rattle.model.proofs.Growth.{slots-law, grown-length, grown-count, ok-found}
@@ -19,7 +20,7 @@ use Rattle.generation.specs.Slots.{slots-after, Puts}
 use Rattle.generation.specs.Rules.{with-slots-for, entered}
 use Rattle.generation.specs.Words.{Bounded, Roomy, Leads, led-by, silent, GenerationReads, GenerationTurns, FittingTurns}
 use Rattle.generation.proofs.Doubling.{slots-are, slots-more}
-use Rattle.generation.proofs.Looking.{slots-part}
+use Rattle.generation.proofs.Looking.{lent-slots, with-lent, slots-part}
 
 -- a run's slots, some of them replaced by as many or more
 pad-over : (S : ℕ) (s t : List ℕ) → length s ≤ length t → length t ≤ S → t ++ drop (length t) (pad S s) ≡ pad S t
@@ -30,9 +31,9 @@ pad-over S s t h k =
     (ap (λ (n : ℕ). t ++ drop n (s ++ replicate (S - length s) 0)) e ∙ rw (drop-append-add, drop-zeros, m))
 
 -- ---- entered
-pub enters : (ws : List ℕ) (h : Leading) → Leads ws h → (fp : ℕ) (ys : List ℕ) (added : ℕ) → Puts fp (midOf 4 (h .slots + 4 - 4) ws) ys added
+pub enters : (ws : List ℕ) (h : Leading) → Leads ws h → (fp : ℕ) (ys : List ℕ) (added : ℕ) → Puts fp (lent-slots (h .slots) ws) ys added
     → (b stamp newest : ℕ) → newest ≡ max (h .newest) stamp → FittingTurns (entered b fp stamp) silent ws
-    (led-by (record { slots = h .slots; held = h .held + added; newest = newest; bucket = b }) (putMid 4 (h .slots + 4 - 4) ws ys)) tt
+    (led-by (record { slots = h .slots; held = h .held + added; newest = newest; bucket = b }) (with-lent (h .slots) ws ys)) tt
 enters ws h leads fp ys added puts b stamp newest n S = record {
   does = λ g fits is.
       let live = slots-part S g fits ws is (h .slots) (leads .slots) in
@@ -43,7 +44,7 @@ enters ws h leads fp ys added puts b stamp newest n S = record {
       let l = put-length (g .slots) fp in
       let counted : count (put (g .slots) fp) ≡ count (g .slots) + added = rw (live, y) at (puts .held) in
       let c : h .held + added ≡ count (put (g .slots) fp) = omega arith in
-      let k : h .slots + 4 - 4 ≡ length (put (g .slots) fp) = omega arith in
+      let k : generation-width (h .slots) - generation-head ≡ length (put (g .slots) fp) = omega arith in
       let m : newest ≡ max (g .newest) stamp = n ∙ rw e2 in
       let w : h .slots ≡ length (put (g .slots) fp) = omega arith in
       let p = pad-over S (g .slots) (put (g .slots) fp) (omega arith) (omega arith) in
@@ -51,26 +52,33 @@ enters ws h leads fp ys added puts b stamp newest n S = record {
 }
 
 -- ---- grown
+-- all slots of a run, as they are lent: `&mut part[HEAD..]`, and the run with others in their place
+abbrev all-slots : List ℕ → List ℕ
+all-slots ws = midOf generation-head (length ws - generation-head) ws
+
+abbrev with-all : List ℕ → List ℕ → List ℕ
+with-all ws ys = putMid generation-head (length ws - generation-head) ws ys
+
 module _ (ws : List ℕ) (known : Bool) (bounds : Bounded ws) (roomy : Roomy known ws)
     (wanted : ℕ) (w : wanted ≡ slots-after known (getD ws 0 0) (getD ws 1 0)) where
-  pub grows-asks : (getD ws 0 0 ≤ wanted) × (wanted + 4 ≤ length ws)
+  pub grows-asks : (getD ws 0 0 ≤ wanted) × (generation-width wanted ≤ length ws)
   grows-asks = let r = roomy .room in let m = slots-more known (getD ws 0 0) (getD ws 1 0) in (omega arith, omega arith)
 
   module _ (ys : List ℕ)
-      (y : ys ≡ grown wanted (take (getD ws 0 0) (midOf 4 (length ws - 4) ws)) ++ drop wanted (midOf 4 (length ws - 4) ws)) where
-    pub grows-bounded : length ys ≡ length (midOf 4 (length ws - 4) ws) → Bounded (set (putMid 4 (length ws - 4) ws ys) 0 wanted)
+      (y : ys ≡ grown wanted (take (getD ws 0 0) (all-slots ws)) ++ drop wanted (all-slots ws)) where
+    pub grows-bounded : length ys ≡ length (all-slots ws) → Bounded (set (with-all ws ys) 0 wanted)
     grows-bounded same =
         let r = grows-asks in
         let live = bounds .live in
         let few = bounds .held in
         let small = bounds .small in
-        let k = length ws - 4 in
-        let four = firsts-are 4 0 ws (omega arith) in
-        let out = ap (λ (l : List ℕ). set (take 4 l ++ (ys ++ drop k (drop 4 ws))) 0 wanted) four in
-        let long : length (ys ++ drop k (drop 4 ws)) ≡ k = simp (length-append, same, length-take, length-drop) (omega arith) in
+        let k = length ws - generation-head in
+        let led = firsts-are generation-head 0 ws (omega arith) in
+        let out = ap (λ (l : List ℕ). set (take generation-head l ++ (ys ++ drop k (drop generation-head ws))) 0 wanted) led in
+        let long : length (ys ++ drop k (drop generation-head ws)) ≡ k = simp (length-append, same, length-take, length-drop) (omega arith) in
         rw out (record { live = rw long (omega arith); held = omega arith; small = rw long (omega arith) })
 
-    pub grows : GenerationTurns (with-slots-for known) silent ws (set (putMid 4 (length ws - 4) ws ys) 0 wanted) tt
+    pub grows : GenerationTurns (with-slots-for known) silent ws (set (with-all ws ys) 0 wanted) tt
     grows S n i = record {
       does = λ g ok is.
           let s = g .slots in
@@ -80,10 +88,10 @@ module _ (ws : List ℕ) (known : Bool) (bounds : Bounded ws) (roomy : Roomy kno
           let v : slots-for known s ≡ wanted = slots-are known s ∙ sym (rw is at w) in
           let more = slots-more known (length s) (count s) in
           let a = slots-are known s in
-          let m : length ws - 4 ≡ S = rw (is, generation-wide S g) (omega arith) in
+          let m : length ws - generation-head ≡ S = rw (is, generation-wide S g) (omega arith) in
           let r = roomy .room in
           let e0 : getD ws 0 0 ≡ length s = ap (λ (l : List ℕ). getD l 0 0) is in
-          let mid : midOf 4 (length ws - 4) ws ≡ pad S s = rw (m, is) (take-all S (pad S s) (rw length-pad (omega arith))) in
+          let mid : all-slots ws ≡ pad S s = rw (m, is) (take-all S (pad S s) (rw length-pad (omega arith))) in
           let l = grown-length wanted s in
           let built : ys ≡ pad S (grown wanted s) =
           rw (mid, e0, live-pad S g fits) at y ∙ rw l at (pad-over S s (grown wanted s) (omega arith) (omega arith)) in
@@ -104,6 +112,6 @@ inserts ws mid last known b fp stamp reads roomy one two S n i = record {
       let r = roomy .room in
       let a : slots-for known s ≡ slots-after known (getD ws 0 0) (getD ws 1 0) = slots-are known s ∙ rw is in
       let l = grown-length (slots-for known s) s in
-      let m : length ws ≡ S + 4 = rw is (generation-wide S g) in
+      let m : length ws ≡ generation-width S = rw is (generation-wide S g) in
       (rw (← k) (two S .does (with-slots-for known g) (omega arith) (one S n i .does g ok is .0) .0), refl);
 }

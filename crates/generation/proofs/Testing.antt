@@ -1,5 +1,5 @@
 -- The soundness test of a generation's words, in the order in which the code makes it: each `return` is the test's value.
-use Prim.Native.Nat.{ℕ, _+_, _-_, _<_, _≤_}
+use Prim.Native.Nat.{ℕ, _-_, _<_, _≤_}
 use native.Mathlib.Omega.{arith}
 use mathlib.Core.Path.{_≡_}
 use mathlib.Core.Bool.{true, false}
@@ -8,24 +8,29 @@ use lib.ListN.{length, getD, take, drop, length-drop}
 use lib.Seq.{take-all}
 use borrow.Author.Tests.{eq-eqb, ne-eqb, le-leb, lt-leb}
 use Rattle.runs.specs.Words.{zeros}
+use Rattle.model.specs.Widths.{generation-head, generation-width}
 use Rattle.model.specs.GenerationWords.{slots-sound, filled-sound, empty-sound, generation-sound}
 
 module _ (n i : ℕ) (ws : List ℕ) where
+  -- where the live slots end
+  abbrev past : ℕ
+  past = generation-width (getD ws 0 0)
+
   -- more slots than the run has
-  pub sound-long : length ws - 4 < getD ws 0 0 → false ≡ generation-sound n i ws
+  pub sound-long : length ws - generation-head < getD ws 0 0 → false ≡ generation-sound n i ws
   unfolding generation-sound
   sound-long h = rw (lt-leb _ _ h)
 
-  module _ (fits : getD ws 0 0 ≤ length ws - 4) where
-    rest : take (length ws - (getD ws 0 0 + 4)) (drop (getD ws 0 0 + 4) ws) ≡ drop (getD ws 0 0 + 4) ws
-    rest = take-all (length ws - (getD ws 0 0 + 4)) (drop (getD ws 0 0 + 4) ws) (rw length-drop (omega arith))
+  module _ (fits : getD ws 0 0 ≤ length ws - generation-head) where
+    rest : take (length ws - past) (drop past ws) ≡ drop past ws
+    rest = take-all (length ws - past) (drop past ws) (rw length-drop (omega arith))
 
     -- slots past their number that are not 0
-    pub sound-rest : false ≡ zeros (take (length ws - (getD ws 0 0 + 4)) (drop (getD ws 0 0 + 4) ws)) → false ≡ generation-sound n i ws
+    pub sound-rest : false ≡ zeros (take (length ws - past) (drop past ws)) → false ≡ generation-sound n i ws
     unfolding generation-sound
     sound-rest z = let e = rw rest at z in rw (le-leb _ _ fits, ← e)
 
-    module _ (z : true ≡ zeros (take (length ws - (getD ws 0 0 + 4)) (drop (getD ws 0 0 + 4) ws))) where
+    module _ (z : true ≡ zeros (take (length ws - past) (drop past ws))) where
       -- no slots
       pub sound-empty : getD ws 0 0 ≡ 0 → empty-sound (getD ws 1 0) (getD ws 2 0) ≡ generation-sound n i ws
       unfolding generation-sound
@@ -38,9 +43,9 @@ module _ (n i : ℕ) (ws : List ℕ) where
         sound-not f = let e = rw rest at z in rw (le-leb _ _ fits, ← e, ne-eqb _ _ h, ← f)
 
         pub sound-filled : true ≡ filled-sound n i (getD ws 0 0) (getD ws 1 0) (getD ws 3 0)
-            → slots-sound (take (getD ws 0 0 + 4 - 4) (drop 4 ws)) (getD ws 1 0) ≡ generation-sound n i ws
+            → slots-sound (take (past - generation-head) (drop generation-head ws)) (getD ws 1 0) ≡ generation-sound n i ws
         unfolding generation-sound
         sound-filled f =
             let e = rw rest at z in
-            let m : getD ws 0 0 + 4 - 4 ≡ getD ws 0 0 = omega arith in
+            let m : past - generation-head ≡ getD ws 0 0 = omega arith in
             rw (le-leb _ _ fits, ← e, ne-eqb _ _ h, ← f, m)

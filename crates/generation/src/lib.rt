@@ -1,4 +1,4 @@
-// A generation: the fingerprints of one bucket, in its own run of words. Four words lead (slots, held, newest, bucket), then
+// A generation: the fingerprints of one bucket, in its own run of words. Its head leads (slots, held, newest, bucket), then
 // come the slots: as many as the first word says are live, and the rest of the run is 0.
 use crate::slots::put;
 use crate::slots::regrow;
@@ -11,6 +11,7 @@ use numbers::layout;
 ghost use mathlib.Core.Path.{_≡_};
 ghost use Prim.Native.Nat.{_≤_, _<_};
 ghost use lib.ListN.{length};
+ghost use Rattle.model.specs.Widths.{generation-head};
 ghost use Rattle.model.specs.Generation.{among, insert, dropped};
 ghost use Rattle.generation.specs.Rules.{holds-in, room-in, with-slots-for, entered, drop-says, dropped-in, drop-in-says, swept-at, sweep-says};
 ghost use Rattle.generation.specs.Words.{Bounded, Roomy, Leads, led-by, opened, silent, GenerationReads, GenerationTurns, FittingTurns};
@@ -23,7 +24,7 @@ pub use slots::find;
 pub use sound::is_sound;
 pub use sound::one_if_held;
 
-// The four words that lead a generation's run.
+// The words that lead a generation's run.
 pub struct Generation {
     // How many slots are live: 0, or a power of two.
     pub slots: u64,
@@ -70,7 +71,7 @@ impl Generation {
 
     // The one that leads a run.
     pub fn of(part: &[u64]) -> Generation
-        requires { ⌜ 4 ≤ length (now part) ⌝ }
+        requires { ⌜ generation-head ≤ length (now part) ⌝ }
         ensures { λ r. ⌜ Leads (now (part .entry)) r ⌝ }
     {
         Generation {
@@ -83,7 +84,7 @@ impl Generation {
 
     // Makes it lead a run.
     pub fn lead(self, part: &mut [u64])
-        requires { ⌜ 4 ≤ length (now part) ⌝ }
+        requires { ⌜ generation-head ≤ length (now part) ⌝ }
         ensures { λ _. ⌜ now (part .exit) ≡ led-by self (now (part .entry)) ⌝ }
     {
         part[Generation::SLOTS] = self.slots;

@@ -11,7 +11,9 @@ ghost use Prim.Native.Nat.{suc, _-_, _≤_, _<_};
 ghost use lib.Bits.{bitAnd};
 ghost use lib.Dec.{eqb};
 ghost use lib.ListN.{length, getD};
+ghost use Rattle.model.specs.Widths.{generation-head};
 ghost use Rattle.model.specs.GenerationWords.{slots-sound, filled-sound, generation-sound};
+ghost use Rattle.model.specs.Most.{generation-most};
 ghost use Rattle.generation.specs.Reach.{near};
 
 // 1 for a number that is not 0, as of a slot that is held or of how many a generation holds, else 0.
@@ -96,7 +98,7 @@ fn filled_sound(ring: u64, at: u64, slots: u64, held: u64, bucket: u64) -> bool
 
 // The words of a generation at position `at` of a ring are sound.
 pub fn is_sound(part: &[u64], ring: u64, at: u64) -> bool
-    requires { ⌜ (0 < ring) × ((4 ≤ length (now part)) × (length (now part) ≤ 1028)) ⌝ }
+    requires { ⌜ (0 < ring) × ((generation-head ≤ length (now part)) × (length (now part) ≤ generation-most)) ⌝ }
     ensures { λ r. ⌜ r ≡ generation-sound ring at (now (part .entry)) ⌝ }
 {
     let n = part[Generation::SLOTS];

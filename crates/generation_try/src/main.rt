@@ -4,7 +4,13 @@
 use generation::Dropped;
 use model::Bucket;
 use model::Room;
+use numbers::layout;
 ghost use Prim.Native.Nat.{_<_};
+
+// The words of a generation of at most 8 slots, and of one of 128.
+const FEW: usize = 8 + layout::GENERATION_HEAD;
+
+const MANY: usize = 128 + layout::GENERATION_HEAD;
 
 fn print(n: u64, end: u8) {
     io::print_decimal(1, n);
@@ -28,7 +34,7 @@ fn show(says: u64, part: &[u64]) {
 fn strike(part: &mut [u64], bucket: Bucket, fp: u64, stamp: u64) -> u64
     requires { ⌜ 0 < fp ⌝ }
 {
-    if part.len() != 12 {
+    if part.len() != FEW {
         return 0;
     }
     if !generation::is_sound(part, 24, 0) {
@@ -48,7 +54,7 @@ fn strike(part: &mut [u64], bucket: Bucket, fp: u64, stamp: u64) -> u64
 
 // Drops the generation if a sweep passes it: 0 where it did not, else one more than the newest that went.
 fn sweep(part: &mut [u64], through: Bucket) -> u64 {
-    if part.len() != 12 {
+    if part.len() != FEW {
         return 0;
     }
     if !generation::is_sound(part, 24, 0) {
@@ -62,16 +68,16 @@ fn sweep(part: &mut [u64], through: Bucket) -> u64 {
 }
 
 // 128 slots of bucket 120. The 95 from `first` on, round the end, are held, and probing for each fingerprint starts at `first`.
-fn crowd(first: usize) -> [u64; 132]
+fn crowd(first: usize) -> [u64; MANY]
     requires { ⌜ first < 128 ⌝ }
 {
-    let mut part = [0u64; 132];
+    let mut part = [0u64; MANY];
     part[0] = 128;
     part[2] = 100;
     part[3] = 120;
     let mut k = 0;
     while k < 95 {
-        let at = (first + k) % 128 + 4;
+        let at = (first + k) % 128 + layout::GENERATION_HEAD;
         part[at] = ((k + 1) * 128 + first) as u64;
         k += 1;
     }
@@ -79,41 +85,41 @@ fn crowd(first: usize) -> [u64; 132]
 }
 
 // 1 where they are sound, and else 0.
-fn sound(part: &[u64; 132]) -> u64 {
+fn sound(part: &[u64; MANY]) -> u64 {
     if generation::is_sound(part, 24, 0) {
         return 1;
     }
     0
 }
 
-// Prints whether they are sound with one word changed and so many said to be held.
+// Prints whether they are sound with one slot changed and so many said to be held.
 fn show_crowd(first: usize, at: usize, word: u64, held: u64)
-    requires { ⌜ (first < 128) × (at < 132) ⌝ }
+    requires { ⌜ (first < 128) × (at < 128) ⌝ }
 {
     let mut part = crowd(first);
-    part[at] = word;
+    part[at + layout::GENERATION_HEAD] = word;
     part[1] = held;
     let says = sound(&part);
     print(says, b' ');
 }
 
-// Those from `first` on, of which `next` is the word of the slot behind the last, with a new fingerprint there, with one that is
+// Those from `first` on, of which `next` is the slot behind the last, with a new fingerprint there, with one that is
 // held already, with the new one past an empty slot, with an empty slot among them, and with one too few said to be held.
 fn show_crowds(first: usize, next: usize, new: u64, known: u64)
-    requires { ⌜ (first < 128) × (next < 100) ⌝ }
+    requires { ⌜ (first < 128) × (next < 96) ⌝ }
 {
     show_crowd(first, next, 0, 95);
     show_crowd(first, next, new, 96);
     show_crowd(first, next, known, 96);
     show_crowd(first, next + 1, new, 96);
-    show_crowd(first, 55, 0, 94);
+    show_crowd(first, 51, 0, 94);
     show_crowd(first, next, 0, 94);
     let line = [b'\n'];
     io::write_all(1, &line);
 }
 
 fn main() {
-    let mut part = [0u64; 12];
+    let mut part = [0u64; FEW];
     let mut says = strike(&mut part, Bucket(120), 8, 100);
     show(says, &part);
     says = strike(&mut part, Bucket(120), 16, 90);
@@ -136,9 +142,9 @@ fn main() {
     show(says, &part);
     says = sweep(&mut part, Bucket(121));
     show(says, &part);
-    part[9] = 5;
+    part[layout::GENERATION_HEAD + 5] = 5;
     says = strike(&mut part, Bucket(120), 5, 1);
     show(says, &part);
-    show_crowds(0, 99, 131072, 128);
-    show_crowds(100, 71, 131172, 228);
+    show_crowds(0, 95, 131072, 128);
+    show_crowds(100, 67, 131172, 228);
 }

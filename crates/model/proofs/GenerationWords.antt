@@ -13,11 +13,12 @@ use Rattle.runs.specs.Form.{Exact}
 use Rattle.runs.specs.Combine.{at-place}
 use Rattle.runs.proofs.Cases.{by-test, both-true, each-true}
 use Rattle.runs.proofs.Words.{zeros-are, zeros-pass, length-pad, pad-fits}
+use Rattle.model.specs.Widths.{generation-head, generation-width}
 use Rattle.model.specs.Generation.{Generation, count}
 use Rattle.model.specs.GenerationWords.{encode-generation, read-generation, slots-sound, reached-from, filled-sound, empty-sound, room-sound, tail-sound, body-sound, generation-sound, GenerationOk, generation-place}
 use Rattle.model.proofs.Probing.{count≤}
 
-pub generation-wide : (S : ℕ) (g : Generation) → length (encode-generation S g) ≡ S + 4
+pub generation-wide : (S : ℕ) (g : Generation) → length (encode-generation S g) ≡ generation-width S
 generation-wide S g = rw length-pad (omega arith)
 
 -- ---- from words to a generation: `a` slots, `b` held, the newest `c`, the bucket `d`, then the slots
@@ -53,7 +54,7 @@ module _ (S n i a b c d : ℕ) (t : List ℕ) (long : length t ≡ S) (fits : a 
       let e = eqb-true (count (take a t)) b (q .1) in
       (record { fits = rw live (omega arith); shape = rw (live, ne-eqb a 0 h, e, p .0) (q .0) }, words-are (sym e))
 
-back : (S n i : ℕ) (ws : List ℕ) → length ws ≡ S + 4 → generation-sound n i ws ≡ true
+back : (S n i : ℕ) (ws : List ℕ) → length ws ≡ generation-width S → generation-sound n i ws ≡ true
     → GenerationOk S n i (read-generation ws) × (ws ≡ encode-generation S (read-generation ws))
 unfolding generation-sound
 back S n i [] long t = absurd (omega arith)
@@ -61,10 +62,10 @@ back S n i (a ∷ []) long t = absurd (omega arith)
 back S n i (a ∷ b ∷ []) long t = absurd (omega arith)
 back S n i (a ∷ b ∷ c ∷ []) long t = absurd (omega arith)
 back S n i (a ∷ b ∷ c ∷ d ∷ ts) long t =
-    let four : a + 4 ≡ suc (suc (suc (suc a))) = omega arith in
+    let four : generation-width a ≡ suc (suc (suc (suc a))) = omega arith in
     let ws = a ∷ b ∷ c ∷ d ∷ ts in
     let p = each-true (room-sound ws) (tail-sound ws ∷ body-sound n i ws ∷ []) t in
-    let fits : a ≤ length ts = let h = leb-true a (length ws - 4) (p .0) in omega arith in
+    let fits : a ≤ length ts = let h = leb-true a (length ws - generation-head) (p .0) in omega arith in
     let z : zeros (drop a ts) ≡ true = rw four at (p .1 .0) in
     by-test (eqb a 0)
     (λ e. back-empty S n i a b c d ts (omega arith) fits z (eqb-true a 0 e) (rw e at (p .1 .1)))
@@ -84,8 +85,8 @@ module _ (S n i : ℕ) (g : Generation) (ok : GenerationOk S n i g) where
   passes =
       let s = g .slots in
       let fits = ok .fits in
-      let four : length s + 4 ≡ suc (suc (suc (suc (length s)))) = omega arith in
-      let room : length s ≤ length (encode-generation S g) - 4 = rw length-pad (omega arith) in
+      let four : generation-width (length s) ≡ suc (suc (suc (suc (length s)))) = omega arith in
+      let room : length s ≤ length (encode-generation S g) - generation-head = rw length-pad (omega arith) in
       rw (le-leb _ _ room, four, rest-pad S g fits, zeros-pass, live-pad S g fits)
       (by-test (eqb (length s) 0)
       (λ e.

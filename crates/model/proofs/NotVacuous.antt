@@ -13,7 +13,7 @@ use Rattle.runs.specs.Words.{zeros, sameWords, pad}
 use Rattle.runs.specs.Chunks.{flat}
 use Rattle.runs.specs.Combine.{wideRow, encRow, readRow, testRow, encUp, readUp, testUp}
 use Rattle.model.specs.Numbers.{compute-numbers}
-use Rattle.model.specs.Settings.{settings-of, settings-fit, compute-settings}
+use Rattle.model.specs.Settings.{settings-of, settings-fit, words-needed, compute-settings}
 use Rattle.model.specs.Class.{compute-class}
 use Rattle.model.specs.Generation.{compute-generation}
 use Rattle.model.specs.GenerationWords.{reached-from, generation-sound, GenerationOk}
@@ -38,12 +38,12 @@ unfoldable pub compute-all : ℕ
 unfolding zeros sameWords pad flat wideRow encRow readRow testRow encUp readUp testUp reached-from generation-sound read-pairs pairs-sound place-sound used-place has-place distinct heading-sound front-sound went-through compute-numbers compute-settings compute-class compute-generation compute-book compute-register compute-judge compute-dump compute-codes compute-calls compute-once
 compute-all = 0
 
--- ---- one register: no window, buckets of 2 ms, two positions, four slots; two places of two pairs for each class: 224 words
+-- ---- one register: no window, buckets of 2 ms, two positions, four slots; two places of two pairs for each class
 abbrev settings : List ℕ
 settings = 1 ∷ 2 ∷ 2 ∷ 0 ∷ 0 ∷ 0 ∷ 0 ∷ 0 ∷ 0 ∷ 2 ∷ 4 ∷ replicate 18 0
 
 abbrev words : List ℕ
-words = replicate 224 0
+words = replicate (words-needed (settings-of settings)) 0
 
 abbrev given : Call → Given
 given c = record { settings = settings; call = c }

@@ -15,6 +15,7 @@ use Rattle.runs.specs.Combine.{both, wideRow, free}
 use Rattle.runs.proofs.Cases.{each-true}
 use Rattle.runs.proofs.Firsts.{firsts, firsts-are}
 use Rattle.runs.proofs.Exact.{both-exact, seen-exact, row-exact, many-exact, free-exact}
+use Rattle.model.specs.Widths.{generation-width, place-width}
 use Rattle.model.specs.Settings.{limits-of, limits-fit, usable-at, settings-fit, fit-at, shares-fit, ring-of, register-words, registers-words, book-words, words-needed}
 use Rattle.model.specs.GenerationWords.{generation-place}
 use Rattle.model.specs.BookWords.{class-form}
@@ -97,7 +98,7 @@ state-exact s =
 -- ---- the words needed
 pub register-wide : (u : Usable) → register-form u .wide ≡ heading-width + register-words u
 unfolding register-words
-register-wide u = let e = mul-assoc 3 (ring-of u) (u .slots + 4) in omega arith
+register-wide u = let e = mul-assoc 3 (ring-of u) (generation-width (u .slots)) in omega arith
 
 registers-wide : (s : Settings) (r n : ℕ) → wideRow (λ i. register-form (usable-at s i)) r n ≡ n * heading-width + registers-words s r n
 unfolding wideRow registers-words
@@ -106,7 +107,7 @@ registers-wide s r (suc n) = omega (arith, register-wide (usable-at s r), regist
 
 pub book-wide : (s : Settings) → book-form s .wide ≡ 12 + book-words (s .shares)
 unfolding book-words
-book-wide s = let b = mul-assoc 3 (s .shares .places) (2 * (s .shares .pairs) + 4) in omega arith
+book-wide s = let b = mul-assoc 3 (s .shares .places) (place-width (s .shares .pairs)) in omega arith
 
 pub registers≤4 : (s : Settings) → settings-fit s ≡ true → s .registers ≤ 4
 unfolding settings-fit

@@ -15,6 +15,7 @@ use Rattle.runs.specs.Form.{Form}
 use Rattle.runs.specs.Chunks.{flat}
 use Rattle.runs.specs.Combine.{Both, both, upTo, such, led, seen-as}
 use Rattle.model.specs.Numbers.{top32}
+use Rattle.model.specs.Widths.{place-head, place-width}
 use Rattle.model.specs.Class.{class-number, class-of, kind-of, same-class, same-deliverer}
 use Rattle.model.specs.Book.{Pair, Place, Held, total, entries, entries-in, units}
 
@@ -65,9 +66,6 @@ abbrev pub kind-sound : Class → ℕ → Bool
 kind-sound c kind = eqb kind 3 || eqb kind (class-number c)
 
 -- ---- a place
-abbrev pub place-width : ℕ → ℕ
-place-width E = 2 * E + 4
-
 abbrev pub encode-place : Place → List ℕ
 encode-place p =
     kind-of (p .who) ∷ number-word (p .who) (p .mark) ∷ entries p ∷ length (p .pairs) ∷ flat pair-words (p .pairs) ++ p .past
@@ -76,8 +74,8 @@ abbrev pub read-place : Class → List ℕ → Place
 read-place c ws = record {
   who = read-who c (getD ws 0 0) (getD ws 1 0);
   mark = read-mark c (getD ws 0 0) (getD ws 1 0);
-  pairs = read-pairs (getD ws 3 0) (drop 4 ws);
-  past = drop (2 * getD ws 3 0) (drop 4 ws);
+  pairs = read-pairs (getD ws 3 0) (drop place-head ws);
+  past = drop (2 * getD ws 3 0) (drop place-head ws);
 }
 
 -- "Each has 1 to E pairs .. summing to its entries": no sum is larger than the class's entries may be
@@ -86,7 +84,7 @@ counts-sound qs sum = pairs-sound 0 qs && (eqb (total qs) sum && leb sum most-en
 
 unfoldable pub place-sound : Class → ℕ → List ℕ → Bool
 place-sound c E ws =
-    kind-sound c (getD ws 0 0) && ((leb 1 (getD ws 3 0) && leb (getD ws 3 0) E) && counts-sound (read-pairs (getD ws 3 0) (drop 4 ws)) (getD ws 2 0))
+    kind-sound c (getD ws 0 0) && ((leb 1 (getD ws 3 0) && leb (getD ws 3 0) E) && counts-sound (read-pairs (getD ws 3 0) (drop place-head ws)) (getD ws 2 0))
 
 pub record PlaceOk (c : Class) (E : ℕ) (p : Place) : Type 0 where
   pub class : same-class (class-of (p .who)) c ≡ true

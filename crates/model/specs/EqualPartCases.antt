@@ -13,7 +13,7 @@ use Rattle.model.specs.declared.Answer.the-variants.{Done, Said, Whole, 
 use Rattle.runs.specs.Words.{zeros, sameWords, pad}
 use Rattle.runs.specs.Chunks.{flat}
 use Rattle.runs.specs.Combine.{EachOk, wideRow, encRow, readRow, testRow, encUp, readUp, testUp}
-use Rattle.model.specs.Settings.{settings-of}
+use Rattle.model.specs.Settings.{settings-of, words-needed}
 use Rattle.model.specs.Dump.{word-bytes}
 use Rattle.model.specs.BookWords.{read-pairs, pairs-sound, place-sound, used-place, has-place, distinct}
 use Rattle.model.specs.RegisterWords.{heading-sound}
@@ -23,12 +23,12 @@ use Rattle.model.specs.Calls.{Asking, Ticket, taken, Restore, Call, Open
 use Rattle.model.specs.View.{Given, answered, left-by}
 use Rattle.model.specs.EqualPart.{Since, since-opening}
 
--- R 1, P 3, E 2, both units 1; 2,000 behind and 0 ahead; bucket 1,000, so ring 4; S 8: 344 words
+-- R 1, P 3, E 2, both units 1; 2,000 behind and 0 ahead; bucket 1,000, so ring 4; S 8
 abbrev pub settings : List ℕ
 settings = 1 ∷ 3 ∷ 2 ∷ 1 ∷ 1 ∷ 2_000 ∷ 0 ∷ 2_000 ∷ 0 ∷ 1_000 ∷ 8 ∷ replicate 18 0
 
 abbrev pub start : List ℕ
-start = replicate 344 5
+start = replicate (words-needed (settings-of settings)) 5
 
 -- T 9, every share 9, opened Empty
 abbrev pub nine : List ℕ

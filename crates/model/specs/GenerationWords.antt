@@ -1,6 +1,6 @@
 -- "Settings and soundness": a generation's words, and when they are sound.
 -- Words: slots, held, newest, bucket, then S words of slots.
-use Prim.Native.Nat.{ℕ, suc, _+_, _-_, _*_, _%_, _≤_}
+use Prim.Native.Nat.{ℕ, suc, _-_, _*_, _%_, _≤_}
 use mathlib.Core.Path.{_≡_}
 use mathlib.Core.Bool.{Bool, true, false, cond, _&&_, _||_}
 use mathlib.Core.List.{List, [], _∷_}
@@ -10,19 +10,16 @@ use Rattle.model.specs.declared.Probe.{Probe}
 use Rattle.model.specs.declared.Probe.the-variants.{Held, Free, Nowhere}
 use Rattle.runs.specs.Words.{zeros, pad}
 use Rattle.runs.specs.Combine.{Place}
+use Rattle.model.specs.Widths.{generation-head, generation-width}
 use Rattle.model.specs.Settings.{power-of-two}
 use Rattle.model.specs.Generation.{Generation, count, probe}
-
--- the width of a generation of at most S slots
-abbrev pub generation-width : ℕ → ℕ
-generation-width S = S + 4
 
 abbrev pub encode-generation : ℕ → Generation → List ℕ
 encode-generation S g = length (g .slots) ∷ count (g .slots) ∷ g .newest ∷ g .bucket ∷ pad S (g .slots)
 
 -- as many slots as it has
 abbrev pub live-slots : List ℕ → List ℕ
-live-slots ws = take (getD ws 0 0) (drop 4 ws)
+live-slots ws = take (getD ws 0 0) (drop generation-head ws)
 
 abbrev pub read-generation : List ℕ → Generation
 read-generation ws = record { bucket = getD ws 3 0; newest = getD ws 2 0; slots = live-slots ws }
@@ -58,11 +55,11 @@ empty-sound holds newest = eqb holds 0 && eqb newest 0
 
 -- at most S slots
 abbrev pub room-sound : List ℕ → Bool
-room-sound ws = leb (getD ws 0 0) (length ws - 4)
+room-sound ws = leb (getD ws 0 0) (length ws - generation-head)
 
 -- "Slots past its count are 0."
 abbrev pub tail-sound : List ℕ → Bool
-tail-sound ws = zeros (drop (getD ws 0 0 + 4) ws)
+tail-sound ws = zeros (drop (generation-width (getD ws 0 0)) ws)
 
 abbrev pub body-sound : ℕ → ℕ → List ℕ → Bool
 body-sound n i ws =

@@ -1,4 +1,5 @@
 pub mod Numbers
+pub mod Widths
 pub mod Settings
 pub mod Class
 pub mod Generation
@@ -10,6 +11,7 @@ pub mod GenerationWords
 pub mod BookWords
 pub mod RegisterWords
 pub mod Words
+pub mod Most
 pub mod Codes
 pub mod Calls
 pub mod View

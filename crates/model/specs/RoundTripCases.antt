@@ -1,9 +1,10 @@
 -- A round trip whose conditions are met: from register 0 of one run of words to register 1 of another, with other settings of the book, in
 -- which both classes hold entries already, a restored deliverer's among them.
-use Prim.Native.Nat.{ℕ}
+use Prim.Native.Nat.{ℕ, _+_}
 use mathlib.Core.List.{List, [], _∷_}
 use lib.ListN.{replicate}
 use Rattle.runs.specs.Chunks.{flat}
+use Rattle.model.specs.Settings.{settings-of, words-needed}
 use Rattle.model.specs.Dump.{word-bytes}
 use Rattle.model.specs.Calls.{Ticket, taken, Sweep, DumpTo, Restore, Call, Open, On}
 use Rattle.model.specs.View.{Given, words-after}
@@ -27,7 +28,7 @@ source-calls =
     ∷ brings source-settings (takes 0 1 8 22 2_000) ∷ brings source-settings (On 0 (Sweep 4_000)) ∷ []
 
 abbrev pub source-words : List ℕ
-source-words = words-after (replicate 344 5) source-calls
+source-words = words-after (replicate (words-needed (settings-of source-settings)) 5) source-calls
 
 -- an output of 120 bytes, of which the dump writes 104: 13 words
 abbrev pub output : List ℕ
@@ -48,5 +49,6 @@ target-calls =
     ∷ brings target-settings (On 0 (Restore (flat word-bytes (0 ∷ 1 ∷ 7 ∷ 6_500 ∷ 1 ∷ 31 ∷ 0 ∷ 0 ∷ []))))
     ∷ brings target-settings (takes 0 0 1 41 8_000) ∷ brings target-settings (takes 0 1 7 42 8_000) ∷ []
 
+-- two words more than it needs
 abbrev pub target-words : List ℕ
-target-words = words-after (replicate 430 6) target-calls
+target-words = words-after (replicate (words-needed (settings-of target-settings) + 2) 6) target-calls

@@ -10,6 +10,7 @@ use Rattle.model.specs.declared.Shares.{Shares}
 use Rattle.model.specs.declared.Limits.{Limits}
 use Rattle.model.specs.declared.Settings.{Settings}
 use Rattle.model.specs.Numbers.{between, cap64, ceil}
+use Rattle.model.specs.Widths.{generation-width, place-width}
 
 -- ---- settings as words: R, P, E, the Feeder and the Peer units, then for each of four registers the origin span behind and
 -- ahead, the copy span behind and ahead, the bucket and S
@@ -89,7 +90,7 @@ settings-fit s =
 
 -- ---- words needed
 unfoldable pub register-words : Usable → ℕ
-register-words u = 3 * ring-of u * (u .slots + 4)
+register-words u = 3 * ring-of u * generation-width (u .slots)
 
 unfoldable pub registers-words : Settings → ℕ → ℕ → ℕ
 registers-words s r zero = 0
@@ -100,7 +101,7 @@ abbrev pub words-for : Settings → ℕ → ℕ
 words-for s r = cond (leb (s .registers) r) 0 (cond (usable-fit (usable-at s r)) (register-words (usable-at s r)) 0)
 
 unfoldable pub book-words : Shares → ℕ
-book-words b = 3 * (b .places) * (2 * (b .pairs) + 4)
+book-words b = 3 * (b .places) * place-width (b .pairs)
 
 -- "3 × ring × (S + 4) for each register, plus 3 × P × (2 × E + 4), plus 128"
 unfoldable pub words-needed : Settings → ℕ

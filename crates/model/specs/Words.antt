@@ -14,6 +14,7 @@ use Rattle.model.specs.declared.Limits.{Limits}
 use Rattle.model.specs.declared.Settings.{Settings}
 use Rattle.runs.specs.Form.{Form}
 use Rattle.runs.specs.Combine.{Both, both, row, free, seen-as}
+use Rattle.model.specs.Widths.{generation-width, class-head, place-width}
 use Rattle.model.specs.Settings.{limits-of, limits-fit, usable-at, ring-of}
 use Rattle.model.specs.Class.{class-number, Each}
 use Rattle.model.specs.Book.{Held, Book}
@@ -96,15 +97,15 @@ state-form s =
     seen-as state-of of-state (both (front-form s) (both (book-form s) (both (registers-form s) (free (unused-width s)))))
 
 -- ---- where each part starts
--- a class: four words of totals, and P places
+-- a class: its totals, and P places
 abbrev pub class-width : Shares → ℕ
-class-width b = 4 + b .places * (2 * (b .pairs) + 4)
+class-width b = class-head + b .places * place-width (b .pairs)
 
 abbrev pub class-start : Settings → Class → ℕ
 class-start s c = front-width + class-number c * class-width (s .shares)
 
 abbrev pub ring-width : Usable → ℕ
-ring-width u = ring-of u * (u .slots + 4)
+ring-width u = ring-of u * generation-width (u .slots)
 
 -- a register: its own words, and a ring for each class
 abbrev pub register-width : Usable → ℕ

@@ -12,8 +12,9 @@ use Rattle.model.specs.declared.Usable.{Usable}
 use Rattle.model.specs.declared.Shares.{Shares}
 use Rattle.model.specs.declared.Settings.{Settings}
 use Rattle.model.specs.Numbers.{between}
+use Rattle.model.specs.Widths.{generation-width, place-width}
 use Rattle.model.specs.Settings.{ring-of, usable-fit, shares-fit, usable-at, fit-at, settings-fit, register-words, registers-words, words-for, book-words, words-needed}
-use Rattle.model.specs.BookWords.{place-width}
+use Rattle.model.specs.Most.{generation-most, rings-most, place-most, book-most}
 use Rattle.model.proofs.Bounds.{usable-bounds, shares-bounds}
 
 -- ---- bounds that settings in bounds have
@@ -21,28 +22,28 @@ use Rattle.model.proofs.Bounds.{usable-bounds, shares-bounds}
 pub record Few (u : Usable) : Type 0 where
   pub ring : ring-of u ≤ 256
   pub slots : u .slots ≤ 1_024
-  pub words : 3 * ring-of u * (u .slots + 4) ≤ 789_504
+  pub words : 3 * ring-of u * generation-width (u .slots) ≤ rings-most
 
 pub usable-few : (u : Usable) → usable-fit u ≡ true → Few u
 usable-few u fit =
     let r = usable-bounds u fit .ring in
     let k = usable-bounds u fit .slots in
     let a : 3 * ring-of u ≤ 768 = omega arith in
-    let b : u .slots + 4 ≤ 1_028 = omega arith in
+    let b : generation-width (u .slots) ≤ generation-most = omega arith in
     record { ring = r; slots = k; words = let m = mul-le-mul a b in omega (arith, m) }
 
 -- the book's
 pub record FewPlaces (b : Shares) : Type 0 where
   pub places : b .places ≤ 64
   pub pairs : b .pairs ≤ 512
-  pub words : 3 * (b .places) * (2 * (b .pairs) + 4) ≤ 197_376
+  pub words : 3 * (b .places) * place-width (b .pairs) ≤ book-most
 
 pub shares-few : (b : Shares) → shares-fit b ≡ true → FewPlaces b
 shares-few b fit =
     let x = shares-bounds b fit .places in
     let y = shares-bounds b fit .pairs in
     let u : 3 * (b .places) ≤ 192 = omega arith in
-    let v : 2 * (b .pairs) + 4 ≤ 1_028 = omega arith in
+    let v : place-width (b .pairs) ≤ place-most = omega arith in
     record { places = x; pairs = y; words = let m = mul-le-mul u v in omega (arith, m) }
 
 -- ---- the sum over R registers, as the sum over four of which those not below R have none
@@ -78,11 +79,11 @@ needed-is s fit book b =
 
 -- ---- as the code has it
 pub register-some : (u : Usable) → usable-fit u ≡ true → (ring : ℕ) → ring ≡ ring-of u
-    → (3 * ring * (u .slots + 4) ≡ register-words u) × (3 * ring * (u .slots + 4) ≤ 789_504)
+    → (3 * ring * generation-width (u .slots) ≡ register-words u) × (3 * ring * generation-width (u .slots) ≤ rings-most)
 unfolding register-words
 register-some u fit ring r = (rw r, rw r (usable-few u fit .words))
 
 pub book-some : (b : Shares) → shares-fit b ≡ true → (place : ℕ) → place ≡ place-width (b .pairs)
-    → (3 * (b .places) * place ≡ book-words b) × (3 * (b .places) * place ≤ 197_376)
+    → (3 * (b .places) * place ≡ book-words b) × (3 * (b .places) * place ≤ book-most)
 unfolding book-words
 book-some b fit place p = (rw p, rw p (shares-few b fit .words))

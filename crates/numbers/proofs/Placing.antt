@@ -10,9 +10,11 @@ use Rattle.model.specs.declared.Class.the-variants.{Feeders, Peers, Own}
 use Rattle.model.specs.declared.Usable.{Usable}
 use Rattle.model.specs.declared.Shares.{Shares}
 use Rattle.model.specs.declared.Settings.{Settings}
+use Rattle.model.specs.Widths.{generation-width, place-width}
 use Rattle.model.specs.Settings.{ring-of, usable-fit, usable-at, settings-fit, register-words, registers-words, book-words, words-needed}
 use Rattle.model.specs.Class.{class-number}
-use Rattle.model.specs.Words.{class-width, class-start, ring-width, register-width, ring-start, after-registers, register-start}
+use Rattle.model.specs.Words.{front-width, class-width, class-start, ring-width, register-width, ring-start, after-registers, register-start}
+use Rattle.model.specs.Most.{generation-most, ring-most, rings-most, register-most, place-most, places-most, class-most, words-most}
 use Rattle.model.proofs.Bounds.{fit-shares, fit-usable}
 use Rattle.model.proofs.Words.{registers≤4}
 use Rattle.numbers.specs.Places.{RegisterAt}
@@ -20,7 +22,7 @@ use Rattle.numbers.proofs.Needed.{usable-few, shares-few}
 
 -- ---- a class in the book
 -- at most 64 places have few words
-pub places-few : (n place : ℕ) → n ≤ 64 → place ≤ 1_028 → n * place ≤ 65_792
+pub places-few : (n place : ℕ) → n ≤ 64 → place ≤ place-most → n * place ≤ places-most
 places-few n place h k = let m = mul-le-mul h k in omega (arith, m)
 
 -- where a part ends that starts at word a and has n words
@@ -36,17 +38,17 @@ third Own k = omega arith
 
 book-is : (b : Shares) → 3 * class-width b ≡ 12 + book-words b
 unfolding book-words
-book-is b = let e = mul-assoc 3 (b .places) (2 * (b .pairs) + 4) in omega arith
+book-is b = let e = mul-assoc 3 (b .places) (place-width (b .pairs)) in omega arith
 
 pub class-within : (s : Settings) (c : Class) → class-start s c + class-width (s .shares) ≤ words-needed s
 unfolding words-needed
 class-within s c = omega (arith, third c (class-width (s .shares)), book-is (s .shares))
 
 -- ---- a class's ring in its register
-pub ring-few : (u : Usable) → usable-fit u ≡ true → ring-of u * (u .slots + 4) ≤ 263_168
+pub ring-few : (u : Usable) → usable-fit u ≡ true → ring-of u * generation-width (u .slots) ≤ ring-most
 ring-few u fit =
     let f = usable-few u fit in
-    let b : u .slots + 4 ≤ 1_028 = let k = f .slots in omega arith in
+    let b : generation-width (u .slots) ≤ generation-most = let k = f .slots in omega arith in
     let m = mul-le-mul (f .ring) b in
     omega (arith, m)
 
@@ -56,7 +58,7 @@ ring-within u c = omega (arith, third c (ring-width u))
 -- ---- a register in the run
 register-is : (u : Usable) → register-width u ≡ 24 + register-words u
 unfolding register-words
-register-is u = let e = mul-assoc 3 (ring-of u) (u .slots + 4) in omega arith
+register-is u = let e = mul-assoc 3 (ring-of u) (generation-width (u .slots)) in omega arith
 
 -- one register more
 pub after-more : (s : Settings) (r n : ℕ) → after-registers s r (suc n) ≡ after-registers s r n + register-width (usable-at s (r + n))
@@ -83,7 +85,7 @@ register-within s r m h =
     omega (arith, w, after-all s 0 (s .registers), book-is (s .shares))
 
 -- ---- settings in bounds need few words
-registers-few : (s : Settings) (r n : ℕ) → ((i : ℕ) → i < r + n → usable-fit (usable-at s i) ≡ true) → registers-words s r n ≤ n * 789_504
+registers-few : (s : Settings) (r n : ℕ) → ((i : ℕ) → i < r + n → usable-fit (usable-at s i) ≡ true) → registers-words s r n ≤ n * rings-most
 unfolding registers-words register-words
 registers-few s r zero each = omega arith
 registers-few s r (suc n) each =
@@ -91,7 +93,7 @@ registers-few s r (suc n) each =
     let f = usable-few (usable-at s r) (each r (omega arith)) .words in
     omega (arith, k, f)
 
-pub needed-few : (s : Settings) → settings-fit s ≡ true → words-needed s ≤ 3_355_520
+pub needed-few : (s : Settings) → settings-fit s ≡ true → words-needed s ≤ words-most
 unfolding words-needed book-words
 needed-few s fit =
     let m = registers≤4 s fit in
@@ -122,13 +124,13 @@ product-few c n k most e h = let m = mul-le-mul {n₁ = n} {n₂ = 2} (let f = n
 pub record Added (s : Settings) (register a i : ℕ) : Type 0 where
   pub within : i ≤ register
   pub sum : a ≡ register-start s i
-  pub small : a ≤ 200_000 + i * 789_528
+  pub small : a ≤ front-width + 3 * class-most + i * register-most
 
-pub added-none : (s : Settings) (register width : ℕ) → width ≡ class-width (s .shares) → width ≤ 65_796 → Added s register (20 + 3 * width) 0
+pub added-none : (s : Settings) (register width : ℕ) → width ≡ class-width (s .shares) → width ≤ class-most → Added s register (20 + 3 * width) 0
 unfolding after-registers
 added-none s register width e h = record { within = omega arith; sum = omega arith; small = omega arith }
 
-pub added-more : (s : Settings) (register a i more : ℕ) → Added s register a i → i < register → more ≡ register-width (usable-at s i) → more ≤ 789_528
+pub added-more : (s : Settings) (register a i more : ℕ) → Added s register a i → i < register → more ≡ register-width (usable-at s i) → more ≤ register-most
     → Added s register (a + more) (i + 1)
 added-more s register a i more l h e f =
     let z : 0 + i ≡ i = omega arith in

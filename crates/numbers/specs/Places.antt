@@ -4,6 +4,7 @@ use mathlib.Core.Path.{_≡_}
 use Rattle.model.specs.declared.Settings.{Settings}
 use Rattle.model.specs.Settings.{usable-at, words-needed}
 use Rattle.model.specs.Words.{register-width, register-start}
+use Rattle.model.specs.Most.{words-most}
 use Rattle.numbers.specs.declared.starts.Place.{Place}
 
 pub record RegisterAt (s : Settings) (r : ℕ) (p : Place) : Type 0 where
@@ -13,4 +14,4 @@ pub record RegisterAt (s : Settings) (r : ℕ) (p : Place) : Type 0 where
   pub end : p .end ≡ p .start + register-width (usable-at s r)
   pub within : p .end ≤ words-needed s
   -- few words, whatever the settings in bounds
-  pub few : p .end ≤ 3_355_520
+  pub few : p .end ≤ words-most

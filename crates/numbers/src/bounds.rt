@@ -12,6 +12,7 @@ ghost use mathlib.Core.Bool.{true, cond};
 ghost use Prim.Native.Nat.{_<_, _≤_};
 ghost use lib.ListN.{length};
 ghost use Rattle.model.specs.Settings.{usable-of as usable-in, usable-below as usable-read, no-usable as no-settings, settings-of as settings-in, limits-of as limits-in, usable-at, power-of-two, window-fit as window-within, usable-fit as usable-within, shares-fit as shares-within, limits-fit as limits-within, settings-fit as settings-within, fit-at, register-words, words-for, book-words as places-words, words-needed as needed};
+ghost use Rattle.model.specs.Most.{rings-most, book-most};
 
 // The words of settings, and of limits.
 pub const SETTINGS: usize = 29;
@@ -179,7 +180,7 @@ pub fn settings_fit(s: Settings) -> bool
 // The words of one register's rings. The bound keeps the sums below from wrapping.
 fn register_words(u: Usable) -> u64
     requires { ⌜ usable-within u ≡ true ⌝ }
-    ensures { λ r. ⌜ (r ≡ register-words u) × (r ≤ 789_504) ⌝ }
+    ensures { λ r. ⌜ (r ≡ register-words u) × (r ≤ rings-most) ⌝ }
 {
     let ring = spans::ring_of(u);
     3 * ring * (u.slots + layout::GENERATION_HEAD as u64)
@@ -188,7 +189,7 @@ fn register_words(u: Usable) -> u64
 // The same for a register by its number; 0 where there is no such register.
 fn words_at(s: Settings, r: usize) -> u64
     requires { ⌜ (r < 4) × (settings-within s ≡ true) ⌝ }
-    ensures { λ n. ⌜ (n ≡ words-for s r) × (n ≤ 789_504) ⌝ }
+    ensures { λ n. ⌜ (n ≡ words-for s r) × (n ≤ rings-most) ⌝ }
 {
     if s.registers <= (r as u64) {
         return 0;
@@ -199,7 +200,7 @@ fn words_at(s: Settings, r: usize) -> u64
 // The words of the share book's places.
 fn book_words(b: Shares) -> u64
     requires { ⌜ shares-within b ≡ true ⌝ }
-    ensures { λ r. ⌜ (r ≡ places-words b) × (r ≤ 197_376) ⌝ }
+    ensures { λ r. ⌜ (r ≡ places-words b) × (r ≤ book-most) ⌝ }
 {
     let place = starts::place_width(b) as u64;
     3 * b.places * place

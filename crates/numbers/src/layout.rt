@@ -74,5 +74,5 @@ pub const FLOOR: usize = 9;
 
 pub const PENDING: usize = 10;
 
-// ---- a generation: four words that lead it, and then S slots
+// ---- a generation: the words that lead it, and then S slots
 pub const GENERATION_HEAD: usize = 4;

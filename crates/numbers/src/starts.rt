@@ -10,9 +10,10 @@ use model::Usable;
 ghost use mathlib.Core.Path.{_≡_};
 ghost use mathlib.Core.Bool.{true};
 ghost use Prim.Native.Nat.{_+_, _*_, _<_, _≤_};
+ghost use Rattle.model.specs.Widths.{class-head, place-width as place-words};
 ghost use Rattle.model.specs.Settings.{settings-fit, shares-fit, usable-fit, usable-at, words-needed};
-ghost use Rattle.model.specs.BookWords.{place-width as place-words};
 ghost use Rattle.model.specs.Words.{class-width as class-words, class-start as class-from, ring-width as ring-words, register-width as register-words, register-start as register-from};
+ghost use Rattle.model.specs.Most.{ring-most, register-most, place-most, class-most};
 ghost use Rattle.numbers.specs.Places.{RegisterAt};
 
 // A register's settings, and where its words lie.
@@ -33,24 +34,24 @@ pub fn needed(s: Settings) -> usize
 // The words of a place in the book: its kind, number, entries and how many pairs it has, then E pairs of two words each.
 pub fn place_width(b: Shares) -> usize
     requires { ⌜ b .pairs ≤ 512 ⌝ }
-    ensures { λ n. ⌜ (n ≡ place-words (b .pairs)) × (n ≤ 1_028) ⌝ }
+    ensures { λ n. ⌜ (n ≡ place-words (b .pairs)) × (n ≤ place-most) ⌝ }
 {
     2 * (b.pairs as usize) + layout::PLACE_HEAD
 }
 
-// Where place i of a class starts in the class's words, after the four of totals.
+// Where place i of a class starts in the class's words, after those of totals.
 pub fn place_start(b: Shares, i: usize) -> usize
     requires { ⌜ (b .pairs ≤ 512) × (i ≤ 64) ⌝ }
-    ensures { λ a. ⌜ (a ≡ 4 + i * place-words (b .pairs)) × (a ≤ 65_796) ⌝ }
+    ensures { λ a. ⌜ (a ≡ class-head + i * place-words (b .pairs)) × (a ≤ class-most) ⌝ }
 {
     let place = place_width(b);
     layout::CLASS_HEAD + i * place
 }
 
-// The words of a class in the book: four of totals, and P places.
+// The words of a class in the book: its totals, and P places.
 pub fn class_width(b: Shares) -> usize
     requires { ⌜ shares-fit b ≡ true ⌝ }
-    ensures { λ n. ⌜ (n ≡ class-words b) × (n ≤ 65_796) ⌝ }
+    ensures { λ n. ⌜ (n ≡ class-words b) × (n ≤ class-most) ⌝ }
 {
     let place = place_width(b);
     layout::CLASS_HEAD + (b.places as usize) * place
@@ -69,7 +70,7 @@ pub fn class_start(s: Settings, class: Class) -> usize
 // The words of one class's ring.
 pub fn ring_width(u: Usable) -> usize
     requires { ⌜ usable-fit u ≡ true ⌝ }
-    ensures { λ n. ⌜ (n ≡ ring-words u) × (n ≤ 263_168) ⌝ }
+    ensures { λ n. ⌜ (n ≡ ring-words u) × (n ≤ ring-most) ⌝ }
 {
     let ring = spans::ring_of(u) as usize;
     ring * ((u.slots as usize) + layout::GENERATION_HEAD)
@@ -78,7 +79,7 @@ pub fn ring_width(u: Usable) -> usize
 // The words of a register: its own, and three rings.
 pub fn register_width(u: Usable) -> usize
     requires { ⌜ usable-fit u ≡ true ⌝ }
-    ensures { λ n. ⌜ (n ≡ register-words u) × (n ≤ 789_528) ⌝ }
+    ensures { λ n. ⌜ (n ≡ register-words u) × (n ≤ register-most) ⌝ }
 {
     let ring = ring_width(u);
     layout::HEADING + 3 * ring

@@ -3,7 +3,7 @@ use Prim.Native.Nat.{ℕ, zero, suc, _+_, _*_}
 use native.Mathlib.Nat.{suc-mul, zero-mul}
 use native.Mathlib.Omega.{arith}
 use mathlib.Core.Path.{_≡_, _∙_, ap, ap₂}
-use mathlib.Core.List.{List, [], _∷_, _++_}
+use mathlib.Core.List.{List, [], _++_}
 use lib.ListN.{replicate, replicate-append-replicate, length-replicate}
 use lib.Seq.{take-all}
 use Rattle.model.specs.declared.Class.{Class}
@@ -17,6 +17,7 @@ use Rattle.runs.specs.Chunks.{flat}
 use Rattle.runs.specs.Words.{pad}
 use Rattle.runs.proofs.Exact.{up-none}
 use Rattle.model.specs.Numbers.{cap64}
+use Rattle.model.specs.Widths.{generation-head, generation-width, class-head, place-width}
 use Rattle.model.specs.Settings.{ring-of}
 use Rattle.model.specs.Class.{three}
 use Rattle.model.specs.Generation.{empty, count}
@@ -44,7 +45,7 @@ nobody = record { places = []; expired = 0 }
 class-blank : (b : Shares) (c : Class) → class-form b c .enc nobody ≡ replicate (class-width b) 0
 unfolding entries-in units
 class-blank b c =
-    ap (λ (l : List ℕ). 0 ∷ 0 ∷ 0 ∷ 0 ∷ l) (up-none (place-form c (b .pairs)) (b .places)) ∙ join 4 (b .places * (2 * (b .pairs) + 4))
+    ap (λ (l : List ℕ). replicate class-head 0 ++ l) (up-none (place-form c (b .pairs)) (b .places)) ∙ join class-head (b .places * place-width (b .pairs))
 
 pub book-blank : (s : Settings) → book-form s .enc (three nobody) ≡ replicate (3 * class-width (s .shares)) 0
 book-blank s =
@@ -53,19 +54,19 @@ book-blank s =
     ∙ thrice (class-width (s .shares))
 
 -- ---- a register
-generation-blank : (S : ℕ) → encode-generation S empty ≡ replicate (S + 4) 0
+generation-blank : (S : ℕ) → encode-generation S empty ≡ replicate (generation-width S) 0
 unfolding count pad
 generation-blank S =
     let t = take-all S (replicate {A = ℕ} S 0) (rw length-replicate (omega arith)) in
-    let e : 4 + S ≡ S + 4 = omega arith in
-    ap (λ (l : List ℕ). 0 ∷ 0 ∷ 0 ∷ 0 ∷ l) t ∙ (rw e at (join 4 S))
+    let e : generation-head + S ≡ generation-width S = omega arith in
+    ap (λ (l : List ℕ). replicate generation-head 0 ++ l) t ∙ (rw e at (join generation-head S))
 
-flat-blank : (S n : ℕ) → flat (encode-generation S) (replicate n empty) ≡ replicate (n * (S + 4)) 0
+flat-blank : (S n : ℕ) → flat (encode-generation S) (replicate n empty) ≡ replicate (n * generation-width S) 0
 unfolding flat
-flat-blank S zero = let e = zero-mul (S + 4) in rw e
+flat-blank S zero = let e = zero-mul (generation-width S) in rw e
 flat-blank S (suc n) =
-    let e : (S + 4) + n * (S + 4) ≡ suc n * (S + 4) = let m = suc-mul n (S + 4) in omega arith in
-    ap₂ (λ (a b : List ℕ). a ++ b) (generation-blank S) (flat-blank S n) ∙ (rw e at (join (S + 4) (n * (S + 4))))
+    let e : generation-width S + n * generation-width S ≡ suc n * generation-width S = let m = suc-mul n (generation-width S) in omega arith in
+    ap₂ (λ (a b : List ℕ). a ++ b) (generation-blank S) (flat-blank S n) ∙ (rw e at (join (generation-width S) (n * generation-width S)))
 
 rings-blank : (u : Usable) → each-form (λ c. ring-form u) .enc (three (replicate (ring-of u) empty)) ≡ replicate (3 * ring-width u) 0
 rings-blank u = let e = flat-blank (u .slots) (ring-of u) in rw e (thrice (ring-width u))

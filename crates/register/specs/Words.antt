@@ -11,6 +11,7 @@ use Rattle.model.specs.Settings.{ring-of, usable-fit}
 use Rattle.model.specs.Register.{Register}
 use Rattle.model.specs.RegisterWords.{register-form}
 use Rattle.model.specs.Words.{ring-width, register-width, ring-start}
+use Rattle.model.specs.Most.{ring-most}
 use Rattle.register.specs.declared.places.Place.{Place}
 use Rattle.register.specs.declared.places.Rings.{Rings}
 
@@ -33,7 +34,7 @@ pub record RingsOf (u : Usable) (n : Rings) : Type 0 where
   pub ring : n .ring ≡ ring-of u
   pub width : n .width ≡ ring-width u
   -- few words, whatever the settings in bounds
-  pub few : n .width ≤ 263_168
+  pub few : n .width ≤ ring-most
 
 -- where a class's ring lies
 pub record RingAt (u : Usable) (c : Class) (p : Place) : Type 0 where

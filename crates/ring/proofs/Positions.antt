@@ -12,6 +12,7 @@ use Rattle.runs.proofs.Exact.{many-exact, sound-is}
 use Rattle.runs.proofs.Parts.{Part, place-part}
 use Rattle.runs.proofs.Walk.{inside}
 use Rattle.runs.proofs.Turns.{lies-at, part-reads, part-turns, reads-as, turns-as}
+use Rattle.model.specs.Widths.{generation-width}
 use Rattle.model.specs.Generation.{Generation, empty}
 use Rattle.model.specs.GenerationWords.{encode-generation, GenerationOk, generation-place}
 use Rattle.model.specs.Register.{Ring, generation-at, with-generation}
@@ -29,12 +30,12 @@ module _ (S n : ℕ) where
   pub sound-words : (ws : List ℕ) → Sized S n ws → testAll (generation-place S n) 0 n ws ≡ true → RingWords S n ws
   sound-words ws s t = record { sized = s; is = sound-is (places S n) ring-exact ws (s .long) t }
 
-  pub starts-at : (i : ℕ) → i < n → StartsAt S n i (i * (S + 4))
-  starts-at i h = record { start = refl; within = inside n i (S + 4) h }
+  pub starts-at : (i : ℕ) → i < n → StartsAt S n i (i * generation-width S)
+  starts-at i h = record { start = refl; within = inside n i (generation-width S) h }
 
   -- ---- position i, lent as `&words[a..e]`
-  module _ (i : ℕ) (h : i < n) (a e : ℕ) (at : StartsAt S n i a) (he : e ≡ a + (S + 4)) where
-    here : Part (places S n) (at-place (generation-place S n) i) (i * (S + 4)) (λ ring. getD ring i empty) (λ ring g. set ring i g)
+  module _ (i : ℕ) (h : i < n) (a e : ℕ) (at : StartsAt S n i a) (he : e ≡ a + generation-width S) where
+    here : Part (places S n) (at-place (generation-place S n) i) (i * generation-width S) (λ ring. getD ring i empty) (λ ring g. set ring i g)
     here = place-part (generation-place S n) (generation-exact S n) n i empty h
 
     pub place-is : (ws : List ℕ) (ring : Ring) → places S n .Ok ring → ws ≡ places S n .enc ring

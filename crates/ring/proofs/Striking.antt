@@ -11,6 +11,7 @@ use borrow.Rule.Slice.PartMut.{midOf}
 use Rattle.runs.proofs.Cases.{by-test}
 use Rattle.runs.proofs.Turns.{turns-as}
 use Rattle.model.specs.declared.Room.the-variants.{At}
+use Rattle.model.specs.Widths.{generation-width}
 use Rattle.model.specs.Generation.{Generation, empty, among}
 use Rattle.model.specs.Register.{Ring, generation-at, with-generation}
 use Rattle.model.specs.Judge.{make-room}
@@ -37,7 +38,7 @@ module _ (S n b fp at : ℕ) (ws : List ℕ) (w : RingWords S n ws) (room : Ring
   pub found-within : at < n
   found-within = rw found-position (mod-lt b (w .sized .some))
 
-  pub found-room : (a e : ℕ) (start : StartsAt S n at a) (he : e ≡ a + (S + 4)) (known : Bool)
+  pub found-room : (a e : ℕ) (start : StartsAt S n at a) (he : e ≡ a + generation-width S) (known : Bool)
       → GenerationReads (λ S g. among fp (g .slots)) (midOf a (e - a) ws) known → Roomy known (midOf a (e - a) ws)
   found-room a e start he known t =
       let v = w .is in

@@ -8,7 +8,8 @@ use Rattle.runs.specs.Combine.{many}
 use Rattle.runs.specs.Turns.{Is, Reads, Turns}
 use Rattle.model.specs.declared.Room.{Room}
 use Rattle.model.specs.declared.Room.the-variants.{At}
-use Rattle.model.specs.GenerationWords.{generation-width, generation-place}
+use Rattle.model.specs.Widths.{generation-width}
+use Rattle.model.specs.GenerationWords.{generation-place}
 use Rattle.model.specs.Register.{Ring, generation-at, with-generation}
 use Rattle.model.specs.Generation.{insert}
 use Rattle.generation.specs.declared.Dropped.{Dropped}

@@ -3,10 +3,16 @@
 use generation::Dropped;
 use model::Bucket;
 use model::Room;
+use numbers::layout;
 ghost use mathlib.Core.Path.{_≡_};
 ghost use mathlib.Core.Bool.{true};
 ghost use Prim.Native.Nat.{_<_};
 ghost use Rattle.ring.specs.Ring.{RingWords};
+
+// The words of a position, and of the ring.
+const WIDTH: usize = 4 + layout::GENERATION_HEAD;
+
+const WORDS: usize = 3 * WIDTH;
 
 fn print(n: u64, end: u8) {
     io::print_decimal(1, n);
@@ -30,7 +36,7 @@ fn show(says: u64, words: &[u64]) {
 fn is_ring(words: &[u64]) -> bool
     ensures { λ r. ⌜ (r ≡ true → RingWords 4 3 (now (words .entry))) ⌝ }
 {
-    if words.len() != 24 {
+    if words.len() != WORDS {
         return false;
     }
     ring::is_sound(words, 4, 3)
@@ -96,7 +102,7 @@ fn sweep(words: &mut [u64], from: Bucket, through: Bucket) -> u64 {
 }
 
 fn main() {
-    let mut words = [0u64; 24];
+    let mut words = [0u64; WORDS];
     let mut says = strike(&mut words, Bucket(6), 7, 100);
     show(says, &words);
     says = strike(&mut words, Bucket(7), 7, 300);
@@ -127,7 +133,7 @@ fn main() {
     show(says, &words);
     says = sweep(&mut words, Bucket(7), Bucket(10));
     show(says, &words);
-    words[20] = 5;
+    words[2 * WIDTH + layout::GENERATION_HEAD] = 5;
     says = strike(&mut words, Bucket(6), 5, 1);
     show(says, &words);
 }

@@ -14,6 +14,7 @@ use Rattle.model.specs.declared.Class.{Class}
 use Rattle.model.specs.declared.Shares.{Shares}
 use Rattle.model.specs.Settings.{settings-of, settings-fit, shares-fit, words-needed}
 use Rattle.model.specs.Words.{class-start, class-width}
+use Rattle.model.specs.Most.{words-most}
 use Rattle.model.proofs.Bounds.{fit-shares}
 use Rattle.numbers.specs.declared.starts.Place.{Place}
 use Rattle.numbers.specs.Places.{RegisterAt}
@@ -111,7 +112,7 @@ module _ {st ws : List ℕ} {codes : Bool} {e : Entry} (by : ByBook st ws codes 
     shares-within = fit-shares s settings-within
 
     module _ (a w : ℕ) (inside : a + class-width (s .shares) ≤ words-needed s) (wide : w ≡ class-width (s .shares)) where
-      class-few : a + w ≤ 3_355_520
+      class-few : a + w ≤ words-most
       class-few = let m = needed-few s settings-within in omega arith
 
       pub class-adds : Fits w64 (a + w)

@@ -14,6 +14,7 @@ use Rattle.model.specs.declared.Deliverer.{Deliverer}
 use Rattle.model.specs.declared.Shares.{Shares}
 use Rattle.book.specs.declared.totals.Totals.{Totals}
 use Rattle.runs.proofs.Turns.{part-is}
+use Rattle.model.specs.Widths.{class-head}
 use Rattle.model.specs.Settings.{settings-of}
 use Rattle.model.specs.Class.{pick, class-at, class-of, class-fits, deliverer-fits, deliverer-of}
 use Rattle.model.specs.Book.{Held, entries-of}
@@ -77,8 +78,8 @@ module _ {st ws : List ℕ} {codes : Bool} {c : Class} {p : ClassSpan} (at : AtC
         subst (λ (b : Shares). ClassIs b c (class-of-words p ws)) (sym (place .shares))
         (class-is (s .shares) c (class-of-words p ws) (fit-shares s (may-read .fit)) is)
 
-    -- the four totals are there
-    pub totals-there : 4 ≤ length (class-of-words p ws)
+    -- the totals are there
+    pub totals-there : class-head ≤ length (class-of-words p ws)
     totals-there =
         let a = place .end in
         let l : length (class-of-words p ws) ≡ p .end - p .start = mid-len (p .start) (p .end) ws (at .within) in

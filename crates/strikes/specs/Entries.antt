@@ -10,6 +10,7 @@ use Rattle.model.specs.Class.{deliverer-fits}
 use Rattle.model.specs.Codes.{flag-fits}
 use Rattle.model.specs.Words.{class-start, class-width}
 use Rattle.model.specs.Calls.{Asking, ask-of}
+use Rattle.model.specs.Most.{words-most}
 use Rattle.numbers.specs.Places.{RegisterAt}
 use Rattle.register.specs.Rules.{asked-by}
 use Rattle.vet.specs.declared.Entry.{Entry}
@@ -39,7 +40,7 @@ pub record AtRegister (st ws : List ℕ) (codes : Bool) (r : ℕ) (p : RegisterS
   pub order : p .start ≤ p .end
   pub within : p .end ≤ length ws
   -- few words, whatever the settings in bounds
-  pub few : p .end ≤ 3_355_520
+  pub few : p .end ≤ words-most
 
 -- a class's part
 pub record ClassAt (st : List ℕ) (c : Class) (p : ClassSpan) : Type 0 where
@@ -52,7 +53,7 @@ pub record AtClass (st ws : List ℕ) (codes : Bool) (c : Class) (p : ClassSpan)
   pub place : p .refusal ≡ 0 → ClassAt st c p
   pub order : p .start ≤ p .end
   pub within : p .end ≤ length ws
-  pub few : p .end ≤ 3_355_520
+  pub few : p .end ≤ words-most
 
 -- a ticket as it is handed in
 pub record Asks (a : Asking) (t : Ticket) : Type 0 where

@@ -3,11 +3,12 @@ use native.Mathlib.Omega.{arith}
 use mathlib.Core.Path.{_≡_}
 use lib.ListN.{length}
 use borrow.Author.Needs.{needs}
+use Rattle.model.specs.Widths.{generation-width}
 use Rattle.generation_try.proofs.crowd.Statement.{statement}
 use Rattle.generation_try.proofs.crowd.Tie as tie
 
 abbrev Inv-loop : tie.InvT-loop
-Inv-loop first part₀ k₀ part k = (k ≤ 95) × (length part ≡ 132)
+Inv-loop first part₀ k₀ part k = (k ≤ 95) × (length part ≡ generation-width 128)
 
 abbrev μ-loop : tie.MeasureT-loop
 μ-loop first part₀ k₀ part k = 95 - k

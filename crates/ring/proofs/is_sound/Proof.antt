@@ -1,15 +1,16 @@
 -- The positions before i were tested, and `all` is the answer for them.
-use Prim.Native.Nat.{_+_, _-_, _*_}
+use Prim.Native.Nat.{_-_, _*_}
 use mathlib.Core.Path.{refl}
 use borrow.Author.Needs.{needs}
 use Rattle.runs.proofs.Walk.{Passed, walk-start, walk-on, pass-end}
 use Rattle.runs.specs.Combine.{at-place}
+use Rattle.model.specs.Widths.{generation-width}
 use Rattle.model.specs.GenerationWords.{generation-place}
 use Rattle.ring.proofs.is_sound.Statement.{statement}
 use Rattle.ring.proofs.is_sound.Tie as tie
 
 abbrev Inv-loop : tie.InvT-loop
-Inv-loop words slots ring all₀ i₀ all i = Passed (at-place (generation-place slots ring)) ring words i (i * (slots + 4)) all
+Inv-loop words slots ring all₀ i₀ all i = Passed (at-place (generation-place slots ring)) ring words i (i * generation-width slots) all
 
 abbrev μ-loop : tie.MeasureT-loop
 μ-loop words slots ring all₀ i₀ all i = ring - i

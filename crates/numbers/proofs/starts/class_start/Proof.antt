@@ -1,4 +1,5 @@
 use Rattle.numbers.proofs.Placing.{product-few, class-within}
+use Rattle.model.specs.Most.{class-most}
 use Rattle.model.proofs.Bounds.{fit-shares}
 use native.Mathlib.Omega.{arith}
 use borrow.Author.Needs.{needs}
@@ -12,10 +13,10 @@ class-number-requires : tie.Need-class-number-requires
 class-number-requires c κs = search needs
 
 mul-result : tie.Need-mul-result
-mul-result c = let k = product-few (c .before .before .args .class) _ _ 65_796 (c .class-number .ensures) (c .before .class-width .ensures .1) in omega arith
+mul-result c = let k = product-few (c .before .before .args .class) _ _ class-most (c .class-number .ensures) (c .before .class-width .ensures .1) in omega arith
 
 add-result : tie.Need-add-result
-add-result c = let k = product-few (c .before .before .args .class) _ _ 65_796 (c .class-number .ensures) (c .before .class-width .ensures .1) in omega arith
+add-result c = let k = product-few (c .before .before .args .class) _ _ class-most (c .class-number .ensures) (c .before .class-width .ensures .1) in omega arith
 
 returns : tie.Need-returns
 returns c = (rw (c .class-number .ensures, c .before .class-width .ensures .0), rw (c .class-number .ensures, c .before .class-width .ensures .0) (class-within (c .before .before .args .s) (c .before .before .args .class)))
