@@ -181,11 +181,11 @@ uint64_t strikes_contains_hash(const uint64_t *settings, size_t settings_length,
 
 /* ---- the clock and the host's numbers */
 
-/* Ends the waiting of a pending register and raises its floor to number: begun is 1. A register that is not pending is left as it is:
-   begun is 0.
+/* Ends the waiting of a pending register and raises its floor to the one that the host brings: begun is 1. A register that is not
+   pending is left as it is: begun is 0.
    Refusals: 1 to 4. */
 uint64_t strikes_begin(const uint64_t *settings, size_t settings_length, uint64_t *words, size_t words_length, uint64_t register_number,
-                       uint64_t number, uint64_t *begun);
+                       uint64_t floor, uint64_t *begun);
 
 /* Sweeps a register: generations that the reading has passed are dropped, and their newest stamps raise the floor. A pending register
    is left as it is.

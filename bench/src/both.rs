@@ -1,7 +1,7 @@
 //! The register and the Rust with the same content.
 
 use calls::call::Ticket;
-use calls::{Form, Settings, Start, Who};
+use calls::{Settings, Start, Who};
 use generator::dump::{Dump, Listed};
 use generator::random::Random;
 use machine::settings_words;
@@ -112,14 +112,5 @@ pub fn ask(ticket: &Ticket) -> raw::Ask {
         flag: ticket.flag,
         kind: 0,
         number: 1,
-    }
-}
-
-pub fn manner(form: Form) -> raw::Manner {
-    match form {
-        Form::Judge => raw::Manner::Judge,
-        Form::Take => raw::Manner::Take,
-        Form::JudgeBatch => raw::Manner::JudgeBatch,
-        Form::TakeBatch => raw::Manner::TakeBatch,
     }
 }

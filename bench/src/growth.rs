@@ -60,7 +60,7 @@ fn judge(settings: &Settings, fill: Fill, contents: u64) -> f64 {
     let mut judge = || {
         at = (at + 1) % all.len();
         let ours = &mut all[at];
-        raw::ask(raw::Manner::Judge, &ours.settings, &mut ours.words, &ask).expect("sound words");
+        raw::ask(raw::judge, &ours.settings, &mut ours.words, &ask).expect("sound words");
     };
     let times = repeats(&mut judge).max(contents);
     (0..5)
@@ -140,8 +140,7 @@ fn by_calls() -> Vec<(u64, f64)> {
                     fingerprint: number,
                     ..both::ask(&both::ticket(&settings, 0))
                 };
-                raw::ask(raw::Manner::Take, &ours.settings, &mut ours.words, &ask)
-                    .expect("sound words");
+                raw::ask(raw::take, &ours.settings, &mut ours.words, &ask).expect("sound words");
                 if number % 25 == 0 {
                     raw::expire(&ours.settings, &mut ours.words, reading).expect("sound words");
                 }

@@ -141,13 +141,8 @@ fn soundness(size: &Size, fill: Fill, contents: u64, runs: usize) -> Named {
     measures.add("judge", || {
         d = (d + 1) % judged.len();
         let kept = &all[0].settings;
-        black_box(raw::ask(
-            raw::Manner::Judge,
-            kept,
-            &mut judged[d],
-            black_box(&ask),
-        ))
-        .expect("sound words");
+        black_box(raw::ask(raw::judge, kept, &mut judged[d], black_box(&ask)))
+            .expect("sound words");
     });
     measures.run(runs);
     Named(
@@ -237,7 +232,7 @@ fn pairs(size: &Size, fill: Fill, dump: Option<&[u8]>, runs: usize) -> Vec<Compa
                     ..both::ask(of(number))
                 };
                 black_box(raw::ask(
-                    both::manner(form),
+                    machine::manner(form),
                     &ours.settings,
                     &mut ours.words,
                     &ask,
@@ -389,7 +384,7 @@ fn taken(
         let ours = nanoseconds(STRETCH, || {
             let ask = both::ask(next.next().expect("as many"));
             black_box(raw::ask(
-                both::manner(form),
+                machine::manner(form),
                 &register.settings,
                 &mut register.words,
                 &ask,

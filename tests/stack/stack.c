@@ -4,8 +4,8 @@
  * A call runs on a stack of its own that was filled with a pattern. How far down the pattern is gone afterwards, less what an empty
  * function takes, is what the call took: its frames, those of all that it calls, and the arguments that go by the stack.
  *
- * Calls come at random, with a fixed seed, under small, middling and the largest settings and on slots that are sorted, so that each refusal and each verdict comes,
- * Whole and Partly too; where one does not come, the program ends with 1.
+ * Calls come at random, with a fixed seed, under small, middling and the largest settings and on slots that are sorted, so that each
+ * refusal and each verdict comes, Whole and Partly too; where one does not come, the program ends with 1.
  */
 #define _XOPEN_SOURCE 700
 #include "strikes.h"
@@ -43,63 +43,45 @@ static uint64_t a, b, c, d, status;
 
 static void nothing(void) {}
 
+/* Each entry point, and what it is handed. tests/entries.py finds one that is left out. */
 #define LENT settings, settings_length, words, words_length
 #define TICKET reg, fp, stamp, reading, flag, kind, number
-static void run_words_needed(void) { status = strikes_words_needed(settings, settings_length, &a); }
-static void run_open(void) {
-    status = strikes_open(settings, settings_length, limits, STRIKES_LIMITS, starts, STRIKES_STARTS, words, words_length);
-}
-static void run_judge(void) { status = strikes_judge(LENT, TICKET, &a); }
-static void run_judge_batch(void) { status = strikes_judge_batch(LENT, TICKET, &a); }
-static void run_take(void) { status = strikes_take(LENT, TICKET, &a); }
-static void run_take_batch(void) { status = strikes_take_batch(LENT, TICKET, &a); }
-static void run_contains_hash(void) { status = strikes_contains_hash(LENT, reg, fp, &a); }
-static void run_begin(void) { status = strikes_begin(LENT, reg, number, &a); }
-static void run_sweep(void) { status = strikes_sweep(LENT, reg, reading); }
-static void run_expire(void) { status = strikes_expire(LENT, reading); }
-static void run_set_limits(void) { status = strikes_set_limits(LENT, limits, STRIKES_LIMITS); }
-static void run_close(void) { status = strikes_close(LENT); }
-static void run_held(void) { status = strikes_held(LENT, kind, number, &a); }
-static void run_class(void) { status = strikes_class(LENT, class_number, &a, &b, &c, &d); }
-static void run_dump(void) { status = strikes_dump(LENT, reg, output, output_length, &a); }
-static void run_restore(void) { status = strikes_restore(LENT, reg, bytes, bytes_length, &a, &b); }
-static void run_resume(void) { status = strikes_resume(LENT, reg, bytes, bytes_length, flag, number, &a, &b); }
-static void run_floor(void) { status = strikes_floor(LENT, reg, &a, &b); }
-static void run_pending(void) { status = strikes_pending(LENT, reg, &a); }
-static void run_swept(void) { status = strikes_swept(LENT, reg, &a, &b); }
+#define ENTRY_POINTS(ENTRY) \
+    ENTRY(words_needed, settings, settings_length, &a) \
+    ENTRY(open, settings, settings_length, limits, STRIKES_LIMITS, starts, STRIKES_STARTS, words, words_length) \
+    ENTRY(judge, LENT, TICKET, &a) \
+    ENTRY(judge_batch, LENT, TICKET, &a) \
+    ENTRY(take, LENT, TICKET, &a) \
+    ENTRY(take_batch, LENT, TICKET, &a) \
+    ENTRY(contains_hash, LENT, reg, fp, &a) \
+    ENTRY(begin, LENT, reg, number, &a) \
+    ENTRY(sweep, LENT, reg, reading) \
+    ENTRY(expire, LENT, reading) \
+    ENTRY(set_limits, LENT, limits, STRIKES_LIMITS) \
+    ENTRY(close, LENT) \
+    ENTRY(held, LENT, kind, number, &a) \
+    ENTRY(class, LENT, class_number, &a, &b, &c, &d) \
+    ENTRY(dump, LENT, reg, output, output_length, &a) \
+    ENTRY(restore, LENT, reg, bytes, bytes_length, &a, &b) \
+    ENTRY(resume, LENT, reg, bytes, bytes_length, flag, number, &a, &b) \
+    ENTRY(floor, LENT, reg, &a, &b) \
+    ENTRY(pending, LENT, reg, &a) \
+    ENTRY(swept, LENT, reg, &a, &b)
 
-enum {
-    WORDS_NEEDED, OPEN, JUDGE, JUDGE_BATCH, TAKE, TAKE_BATCH, CONTAINS_HASH, BEGIN, SWEEP, EXPIRE,
-    SET_LIMITS, CLOSE, HELD, CLASS, DUMP, RESTORE, RESUME, FLOOR, IS_PENDING, SWEPT, ENTRIES
-};
+#define RUN(name, ...) \
+    static void run_##name(void) { status = strikes_##name(__VA_ARGS__); }
+ENTRY_POINTS(RUN)
 
+#define NUMBER(name, ...) is_##name,
+enum { ENTRY_POINTS(NUMBER) ENTRIES };
+
+#define START(name, ...) {"strikes_" #name, run_##name, 0, 0, 0},
 static struct entry {
     const char *name;
     void (*run)(void);
     size_t deepest;
     unsigned long through, refused;
-} entry[ENTRIES] = {
-    {"strikes_words_needed", run_words_needed, 0, 0, 0},
-    {"strikes_open", run_open, 0, 0, 0},
-    {"strikes_judge", run_judge, 0, 0, 0},
-    {"strikes_judge_batch", run_judge_batch, 0, 0, 0},
-    {"strikes_take", run_take, 0, 0, 0},
-    {"strikes_take_batch", run_take_batch, 0, 0, 0},
-    {"strikes_contains_hash", run_contains_hash, 0, 0, 0},
-    {"strikes_begin", run_begin, 0, 0, 0},
-    {"strikes_sweep", run_sweep, 0, 0, 0},
-    {"strikes_expire", run_expire, 0, 0, 0},
-    {"strikes_set_limits", run_set_limits, 0, 0, 0},
-    {"strikes_close", run_close, 0, 0, 0},
-    {"strikes_held", run_held, 0, 0, 0},
-    {"strikes_class", run_class, 0, 0, 0},
-    {"strikes_dump", run_dump, 0, 0, 0},
-    {"strikes_restore", run_restore, 0, 0, 0},
-    {"strikes_resume", run_resume, 0, 0, 0},
-    {"strikes_floor", run_floor, 0, 0, 0},
-    {"strikes_pending", run_pending, 0, 0, 0},
-    {"strikes_swept", run_swept, 0, 0, 0},
-};
+} entry[ENTRIES] = {ENTRY_POINTS(START)};
 
 static size_t empty;
 static unsigned long refusals[8], verdicts[6], restored[2];
@@ -115,9 +97,9 @@ static void measure(int which) {
         return;
     }
     e->through++;
-    if (which >= JUDGE && which <= TAKE_BATCH)
+    if (which >= is_judge && which <= is_take_batch)
         verdicts[a]++;
-    if (which == RESTORE || which == RESUME)
+    if (which == is_restore || which == is_resume)
         restored[a]++;
 }
 
@@ -144,8 +126,8 @@ static void crowd(uint64_t places, uint64_t pairs, uint64_t slots) {
 }
 
 /* Opens words with these settings, and makes calls at random; of 256 slots those of one generation are crowded at every call. */
-static void session(uint64_t registers, uint64_t places, uint64_t pairs, uint64_t behind, uint64_t ahead, uint64_t bucket,
-                    uint64_t slots, int turns) {
+static void calls_under(uint64_t registers, uint64_t places, uint64_t pairs, uint64_t behind, uint64_t ahead, uint64_t bucket,
+                        uint64_t slots, int turns) {
     memset(settings, 0, sizeof settings);
     settings[STRIKES_SET_REGISTERS] = registers;
     settings[STRIKES_SET_PLACES] = places;
@@ -163,7 +145,7 @@ static void session(uint64_t registers, uint64_t places, uint64_t pairs, uint64_
         starts[STRIKES_START_FLOOR(r)] = 5;
     }
     settings_length = STRIKES_SETTINGS;
-    measure(WORDS_NEEDED);
+    measure(is_words_needed);
     size_t needed = a;
     words = malloc(8 * needed);
     output = malloc(8 * needed);
@@ -174,7 +156,7 @@ static void session(uint64_t registers, uint64_t places, uint64_t pairs, uint64_
     output_length = bytes_length = 8 * needed;
     memset(bytes, 0, bytes_length);
     limits_at(200);
-    measure(OPEN);
+    measure(is_open);
     reading = behind;
     for (int turn = 0; turn < turns; turn++) {
         if (below(8) == 0)
@@ -191,12 +173,12 @@ static void session(uint64_t registers, uint64_t places, uint64_t pairs, uint64_
         settings_length = below(60) ? STRIKES_SETTINGS : 28;
         words_length = below(60) ? needed : needed - 1;
         output_length = below(10) ? 8 * needed : below(64);
-        int which = below(3) ? TAKE + (int)below(2) : (int)below(ENTRIES);
-        if (which == OPEN && below(10))
-            which = RESTORE;
-        if (which == CLOSE && below(10))
-            which = DUMP;
-        if (which == SET_LIMITS)
+        int which = below(3) ? is_take + (int)below(2) : (int)below(ENTRIES);
+        if (which == is_open && below(10))
+            which = is_restore;
+        if (which == is_close && below(10))
+            which = is_dump;
+        if (which == is_set_limits)
             limits_at(below(2000));
         if (slots == 256)
             crowd(places, pairs, slots);
@@ -205,9 +187,9 @@ static void session(uint64_t registers, uint64_t places, uint64_t pairs, uint64_
         if (spoilt < needed)
             words[spoilt] ^= 1;
         measure(which);
-        if (spoilt < needed && which != OPEN)
+        if (spoilt < needed && which != is_open)
             words[spoilt] = kept;
-        if (which == DUMP && status == STRIKES_OK) {
+        if (which == is_dump && status == STRIKES_OK) {
             memcpy(bytes, output, a);
             bytes_length = below(4) ? a : below(a);
         }
@@ -219,11 +201,11 @@ static void session(uint64_t registers, uint64_t places, uint64_t pairs, uint64_
 
 int main(void) {
     empty = depth(nothing);
-    session(1, 1, 2, 10, 10, 10, 2, 20000);
-    session(1, 4, 8, 20000, 2000, 1000, 8, 20000);
-    session(4, 8, 16, 20000, 2000, 1000, 64, 4000);
-    session(1, 4, 8, 20000, 2000, 1000, 256, 4000);
-    session(4, 64, 512, 3600000, 3600000, 28347, 1024, 200);
+    calls_under(1, 1, 2, 10, 10, 10, 2, 20000);
+    calls_under(1, 4, 8, 20000, 2000, 1000, 8, 20000);
+    calls_under(4, 8, 16, 20000, 2000, 1000, 64, 4000);
+    calls_under(1, 4, 8, 20000, 2000, 1000, 256, 4000);
+    calls_under(4, 64, 512, 3600000, 3600000, 28347, 1024, 200);
     printf("%-24s %10s %10s %10s\n", "entry point", "bytes", "through", "refused");
     for (int i = 0; i < ENTRIES; i++)
         printf("%-24s %10zu %10lu %10lu\n", entry[i].name, entry[i].deepest, entry[i].through, entry[i].refused);

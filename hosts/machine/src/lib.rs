@@ -126,7 +126,7 @@ fn serve(settings: &[u64], words: &mut [u64], call: &Call) -> Result<Answer, Ref
         Call::ContainsHash {
             register,
             fingerprint,
-        } => Answer::Whether(raw::contains_hash(
+        } => whether(raw::contains_hash(
             settings,
             words,
             *register,
@@ -134,8 +134,8 @@ fn serve(settings: &[u64], words: &mut [u64], call: &Call) -> Result<Answer, Ref
         )?),
         Call::Begin { register, number } => {
             match raw::begin(settings, words, *register, *number)? {
-                true => Answer::Begun,
-                false => Answer::Already,
+                1 => Answer::Begun,
+                _ => Answer::Already,
             }
         }
         Call::Expire { reading } => done(raw::expire(settings, words, *reading)?),
@@ -155,8 +155,11 @@ fn serve(settings: &[u64], words: &mut [u64], call: &Call) -> Result<Answer, Ref
             let (flag, floor) = proven.map_or((0, 0), |floor| (1, floor));
             restored(raw::resume(settings, words, *register, bytes, flag, floor)?)
         }
-        Call::Floor { register } => Answer::Floor(raw::floor(settings, words, *register)?),
-        Call::Pending { register } => Answer::Whether(raw::pending(settings, words, *register)?),
+        Call::Floor { register } => {
+            let (present, floor) = raw::floor(settings, words, *register)?;
+            Answer::Floor((present == 1).then_some(floor))
+        }
+        Call::Pending { register } => whether(raw::pending(settings, words, *register)?),
         Call::Swept { register } => {
             let (bucket, published) = raw::swept(settings, words, *register)?;
             Answer::Swept { bucket, published }
@@ -166,7 +169,7 @@ fn serve(settings: &[u64], words: &mut [u64], call: &Call) -> Result<Answer, Ref
             Answer::Entries(raw::held(settings, words, kind, number)?)
         }
         Call::Class { class } => {
-            let [entries, holders, units, expired] = raw::class(settings, words, *class)?;
+            let (entries, holders, units, expired) = raw::class(settings, words, *class)?;
             Answer::Class {
                 entries,
                 holders,
@@ -213,20 +216,24 @@ fn refused(refusal: Refusal) -> Answer {
     Answer::Refused(refusal.number())
 }
 
-fn restored((whole, read): (bool, u64)) -> Answer {
-    if whole {
-        Answer::Whole(read)
-    } else {
-        Answer::Partly(read)
+fn whether(number: u64) -> Answer {
+    Answer::Whether(number == 1)
+}
+
+fn restored((whole, read): (u64, u64)) -> Answer {
+    match whole {
+        1 => Answer::Whole(read),
+        _ => Answer::Partly(read),
     }
 }
 
-fn manner(form: Form) -> Manner {
+/// The entry point that a ticket is brought to.
+pub fn manner(form: Form) -> Manner {
     match form {
-        Form::Judge => Manner::Judge,
-        Form::Take => Manner::Take,
-        Form::JudgeBatch => Manner::JudgeBatch,
-        Form::TakeBatch => Manner::TakeBatch,
+        Form::Judge => raw::judge,
+        Form::Take => raw::take,
+        Form::JudgeBatch => raw::judge_batch,
+        Form::TakeBatch => raw::take_batch,
     }
 }
 

@@ -155,7 +155,7 @@ impl Gateway {
         now: Reading,
         who: Deliverer,
     ) -> Result<Verdict, Refusal> {
-        self.ask(Manner::Judge, register, ticket, now, who)
+        self.ask(raw::judge, register, ticket, now, who)
     }
 
     /// As [`judge`](Self::judge), with [`Verdict::Ahead`] for a ticket past the front of its window.
@@ -166,7 +166,7 @@ impl Gateway {
         now: Reading,
         who: Deliverer,
     ) -> Result<Verdict, Refusal> {
-        self.ask(Manner::JudgeBatch, register, ticket, now, who)
+        self.ask(raw::judge_batch, register, ticket, now, who)
     }
 
     /// Judges the ticket, and where it is New draws a share and remembers it. Count a ticket only where this says New.
@@ -177,7 +177,7 @@ impl Gateway {
         now: Reading,
         who: Deliverer,
     ) -> Result<Verdict, Refusal> {
-        self.ask(Manner::Take, register, ticket, now, who)
+        self.ask(raw::take, register, ticket, now, who)
     }
 
     /// As [`take`](Self::take), with [`Verdict::Ahead`] for a ticket past the front of its window.
@@ -188,12 +188,13 @@ impl Gateway {
         now: Reading,
         who: Deliverer,
     ) -> Result<Verdict, Refusal> {
-        self.ask(Manner::TakeBatch, register, ticket, now, who)
+        self.ask(raw::take_batch, register, ticket, now, who)
     }
 
     /// Whether any bucket of the register holds the fingerprint.
     pub fn contains_hash(&self, register: u64, fingerprint: u64) -> Result<bool, Refusal> {
-        raw::contains_hash(&self.settings, &self.words, register, fingerprint)
+        let held = raw::contains_hash(&self.settings, &self.words, register, fingerprint)?;
+        Ok(held == 1)
     }
 
     /// Lets a register that started as [`Start::Fallback`] judge, with nothing New up to `floor`.
@@ -216,7 +217,10 @@ impl Gateway {
     /// ```
     pub fn begin(&mut self, register: u64, floor: u64) -> Result<Begun, Refusal> {
         let begun = raw::begin(&self.settings, &mut self.words, register, floor)?;
-        Ok(if begun { Begun::Begun } else { Begun::Already })
+        Ok(match begun {
+            1 => Begun::Begun,
+            _ => Begun::Already,
+        })
     }
 
     /// The host's tick: sweeps every register by the clock, then frees the entries that all of them are past.
@@ -295,12 +299,13 @@ impl Gateway {
 
     /// A register's floor: nothing stamped up to it is New.
     pub fn floor(&self, register: u64) -> Result<Option<u64>, Refusal> {
-        raw::floor(&self.settings, &self.words, register)
+        let (present, floor) = raw::floor(&self.settings, &self.words, register)?;
+        Ok((present == 1).then_some(floor))
     }
 
     /// Whether a register waits for its [`begin`](Self::begin).
     pub fn pending(&self, register: u64) -> Result<bool, Refusal> {
-        raw::pending(&self.settings, &self.words, register)
+        Ok(raw::pending(&self.settings, &self.words, register)? == 1)
     }
 
     /// How far a register is swept.
@@ -317,7 +322,7 @@ impl Gateway {
 
     /// A class's part of the book.
     pub fn totals(&self, class: Class) -> Result<Totals, Refusal> {
-        let [entries, holders, units, expired] =
+        let (entries, holders, units, expired) =
             raw::class(&self.settings, &self.words, class.number())?;
         Ok(Totals {
             entries,
@@ -328,10 +333,9 @@ impl Gateway {
     }
 }
 
-fn restored((whole, read): (bool, u64)) -> Restored {
-    if whole {
-        Restored::Whole(read)
-    } else {
-        Restored::Partly(read)
+fn restored((whole, read): (u64, u64)) -> Restored {
+    match whole {
+        1 => Restored::Whole(read),
+        _ => Restored::Partly(read),
     }
 }

@@ -2,13 +2,14 @@
 //! counted twice, whatever the clock did in between.
 //!
 //! [`Gateway`] owns its words and answers with [`Verdict`]s and [`Refusal`]s; [`raw`] has the same calls over slices that the host
-//! keeps, with plain numbers. The work is done by `libstrikes.a`, in which every function is proved to meet its contract.
-//! docs/HOST-GUIDE.md tells a gateway's day.
+//! keeps, with plain numbers, and [`abi`] over pointers. The last two are made from one table, [`entries`]. The work is done by
+//! `libstrikes.a`, in which every function is proved to meet its contract. docs/HOST-GUIDE.md tells a gateway's day.
 //!
 //! Nothing here is shared between gateways: two of them may be used by two threads.
 
 pub mod abi;
 mod answers;
+mod entries;
 mod gateway;
 pub mod raw;
 mod settings;

@@ -2,6 +2,7 @@
 //! at which input.
 
 use std::ffi::{c_int, c_void};
+use std::ptr::slice_from_raw_parts_mut;
 use std::sync::atomic::{AtomicU64, Ordering};
 use std::time::Duration;
 
@@ -84,21 +85,21 @@ impl Region {
     }
 
     /// Lays bytes down at one end; where they lie.
-    pub fn lay(&mut self, bytes: &[u8], against: Against) -> *mut u8 {
+    pub fn lay(&mut self, bytes: &[u8], against: Against) -> *mut [u8] {
         let at = match against {
             Against::Front => 0,
             Against::Back => self.length - bytes.len(),
         };
-        let all = self.all();
-        all[at..at + bytes.len()].copy_from_slice(bytes);
-        all[at..].as_mut_ptr()
+        let part = &mut self.all()[at..at + bytes.len()];
+        part.copy_from_slice(bytes);
+        part
     }
 
     /// The same for words, which lie at a multiple of eight at either end.
-    pub fn lay_words(&mut self, words: &[u64], against: Against) -> *mut u64 {
+    pub fn lay_words(&mut self, words: &[u64], against: Against) -> *mut [u64] {
         let bytes =
             unsafe { std::slice::from_raw_parts(words.as_ptr().cast::<u8>(), 8 * words.len()) };
-        self.lay(bytes, against).cast()
+        slice_from_raw_parts_mut(self.lay(bytes, against).cast(), words.len())
     }
 
     /// Whether everything but the part laid down is as it was; then it is filled again.

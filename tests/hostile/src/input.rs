@@ -8,75 +8,50 @@ use soundness::{Call, SETTINGS};
 use crate::alter::{Altered, alter};
 use crate::scene::{Scene, anything};
 
-#[derive(Clone, Copy, Debug, PartialEq, Eq, PartialOrd, Ord)]
-pub enum Entry {
-    WordsNeeded,
-    Open,
-    Judge,
-    JudgeBatch,
-    Take,
-    TakeBatch,
-    ContainsHash,
-    Begin,
-    Expire,
-    Sweep,
-    SetLimits,
-    Close,
-    Dump,
-    Restore,
-    Resume,
-    Floor,
-    Pending,
-    Swept,
-    Held,
-    Class,
+/// Whether none of the arguments is a run of words that may be altered.
+macro_rules! only_reads {
+    ($run:ident: &mut [u64] $($left:tt)*) => { false };
+    ($next:tt $($left:tt)*) => { only_reads!($($left)*) };
+    () => { true };
 }
 
-impl Entry {
-    pub const ALL: [Self; 20] = [
-        Self::WordsNeeded,
-        Self::Open,
-        Self::Judge,
-        Self::JudgeBatch,
-        Self::Take,
-        Self::TakeBatch,
-        Self::ContainsHash,
-        Self::Begin,
-        Self::Expire,
-        Self::Sweep,
-        Self::SetLimits,
-        Self::Close,
-        Self::Dump,
-        Self::Restore,
-        Self::Resume,
-        Self::Floor,
-        Self::Pending,
-        Self::Swept,
-        Self::Held,
-        Self::Class,
-    ];
+macro_rules! list {
+    ($($(#[$doc:meta])* $name:ident($($arguments:tt)*) -> ($($out:ident),*);)*) => {
+        /// The entry points under the names that they have in the table (hosts/rust/src/entries.rs).
+        #[allow(non_camel_case_types)]
+        #[derive(Clone, Copy, Debug, PartialEq, Eq, PartialOrd, Ord)]
+        pub enum Entry {
+            $($name),*
+        }
 
-    /// Whether it leaves every word as it is, even where nothing refuses it.
-    pub fn only_reads(self) -> bool {
-        matches!(
-            self,
-            Self::WordsNeeded
-                | Self::ContainsHash
-                | Self::Dump
-                | Self::Floor
-                | Self::Pending
-                | Self::Swept
-                | Self::Held
-                | Self::Class
-        )
-    }
+        impl Entry {
+            pub const ALL: &[Self] = &[$(Self::$name),*];
+
+            /// Its out numbers by name.
+            pub fn outs(self) -> &'static [&'static str] {
+                match self {
+                    $(Self::$name => &[$(stringify!($out)),*]),*
+                }
+            }
+
+            /// Whether it leaves every word as it is, even where nothing refuses it.
+            pub fn only_reads(self) -> bool {
+                match self {
+                    $(Self::$name => only_reads!($($arguments)*)),*
+                }
+            }
+        }
+    };
 }
+
+strikes::entries!(list);
 
 /// The numbers that entry points take, by name; each takes some of them.
 #[derive(Clone, Copy, Debug, Default)]
 pub struct Numbers {
     pub register: u64,
     pub fingerprint: u64,
+    /// Of a ticket; and the floor that a host brings.
     pub stamp: u64,
     pub reading: u64,
     pub flag: u64,
@@ -105,7 +80,7 @@ impl Input {
         let altered = alter(scene, &mut words, random);
         lend(&mut words, random);
         Self {
-            entry: random.pick(&Entry::ALL),
+            entry: random.pick(Entry::ALL),
             settings: settings(scene, random),
             words,
             limits: limits(random),
@@ -128,42 +103,42 @@ impl Input {
             ..
         } = self.numbers;
         match self.entry {
-            Entry::WordsNeeded => Call::WordsNeeded,
-            Entry::Open => Call::Open {
+            Entry::words_needed => Call::WordsNeeded,
+            Entry::open => Call::Open {
                 limits: &self.limits,
                 starts: &self.starts,
             },
-            Entry::Judge | Entry::JudgeBatch | Entry::Take | Entry::TakeBatch => Call::Ask {
+            Entry::judge | Entry::judge_batch | Entry::take | Entry::take_batch => Call::Ask {
                 register,
                 flag,
                 kind,
                 number,
             },
-            Entry::ContainsHash
-            | Entry::Begin
-            | Entry::Sweep
-            | Entry::Floor
-            | Entry::Pending
-            | Entry::Swept => Call::On { register },
-            Entry::Expire | Entry::Close => Call::Plain,
-            Entry::SetLimits => Call::Limits {
+            Entry::contains_hash
+            | Entry::begin
+            | Entry::sweep
+            | Entry::floor
+            | Entry::pending
+            | Entry::swept => Call::On { register },
+            Entry::expire | Entry::close => Call::Plain,
+            Entry::set_limits => Call::Limits {
                 limits: &self.limits,
             },
-            Entry::Dump => Call::Dump {
+            Entry::dump => Call::Dump {
                 register,
                 out: self.out.len(),
             },
-            Entry::Restore => Call::Restore {
+            Entry::restore => Call::Restore {
                 register,
                 bytes: &self.bytes,
             },
-            Entry::Resume => Call::Resume {
+            Entry::resume => Call::Resume {
                 register,
                 bytes: &self.bytes,
                 flag,
             },
-            Entry::Held => Call::Held { kind, number },
-            Entry::Class => Call::Class { class },
+            Entry::held => Call::Held { kind, number },
+            Entry::class => Call::Class { class },
         }
     }
 }

@@ -3,34 +3,16 @@
 use soundness::{Due, broken, refusal, settings_of};
 
 use crate::guard::Against;
-use crate::input::{Entry, Input};
+use crate::input::Input;
 use crate::lent::{After, BEFORE, Lent};
 
-/// How many out numbers an entry point writes.
-fn outs(entry: Entry) -> usize {
-    match entry {
-        Entry::Open | Entry::Expire | Entry::Sweep | Entry::SetLimits | Entry::Close => 0,
-        Entry::Restore | Entry::Resume | Entry::Floor | Entry::Swept => 2,
-        Entry::Class => 4,
-        _ => 1,
-    }
-}
-
-/// The largest that an out number can be.
-fn most(input: &Input, out: usize) -> u64 {
-    match (input.entry, out) {
-        (Entry::Judge | Entry::Take, 0) | (Entry::JudgeBatch | Entry::TakeBatch, 0) => 5,
-        (
-            Entry::ContainsHash
-            | Entry::Begin
-            | Entry::Restore
-            | Entry::Resume
-            | Entry::Floor
-            | Entry::Pending,
-            0,
-        ) => 1,
-        (Entry::Restore | Entry::Resume, _) => input.bytes.len() as u64,
-        (Entry::Dump, _) => input.out.len() as u64,
+/// The largest that an out number can be, by its name.
+fn most(input: &Input, out: &str) -> u64 {
+    match out {
+        "verdict" => 5,
+        "held" | "begun" | "whole" | "present" | "pending" => 1,
+        "read" => input.bytes.len() as u64,
+        "written" => input.out.len() as u64,
         _ => u64::MAX,
     }
 }
@@ -71,18 +53,19 @@ fn refused(input: &Input, after: &After) -> Result<(), String> {
 fn went_through(input: &Input, after: &After) -> Result<(), String> {
     let settings = settings_of(&input.settings).expect("not refused");
     let needed = settings.words() as usize;
-    let outs = outs(input.entry);
-    if after.numbers[outs..] != BEFORE[outs..] {
+    let outs = input.entry.outs();
+    if after.numbers[outs.len()..] != BEFORE[outs.len()..] {
         return Err("a number past those that it tells was altered".into());
     }
-    if let Some(out) = (0..outs).find(|out| after.numbers[*out] > most(input, *out)) {
-        return Err(format!("number {out} is {}", after.numbers[out]));
+    let mut written = 0;
+    for (out, number) in outs.iter().zip(after.numbers) {
+        if number > most(input, out) {
+            return Err(format!("{out} is {number}"));
+        }
+        if *out == "written" {
+            written = number as usize;
+        }
     }
-    let written = if input.entry == Entry::Dump {
-        after.numbers[0] as usize
-    } else {
-        0
-    };
     if after.out[written..] != input.out[written..] {
         return Err("output past what was written was altered".into());
     }

@@ -33,8 +33,8 @@ pub struct After {
 pub const BEFORE: [u64; OUTS] = [0xdead_0001, 0xdead_0002, 0xdead_0003, 0xdead_0004];
 
 /// A copy of what lies at a place that was laid down.
-fn seen<T: Copy>(at: *const T, length: usize) -> Vec<T> {
-    unsafe { std::slice::from_raw_parts(at, length) }.to_vec()
+fn seen<T: Copy>(at: *const [T]) -> Vec<T> {
+    unsafe { &*at }.to_vec()
 }
 
 impl Lent {
@@ -51,33 +51,18 @@ impl Lent {
     }
 
     pub fn run(&mut self, input: &Input, against: Against) -> After {
-        let settings = self.settings.lay_words(&input.settings, against);
-        let words = self.words.lay_words(&input.words, against);
-        let limits = self.limits.lay_words(&input.limits, against);
-        let starts = self.starts.lay_words(&input.starts, against);
-        let bytes = self.bytes.lay(&input.bytes, against);
-        let out = self.out.lay(&input.out, against);
-        let numbers = self.numbers.lay_words(&BEFORE, against);
-        let at = At {
-            settings,
-            words,
-            limits,
-            starts,
-            bytes,
-            out,
-            numbers,
-        };
-        let number = unsafe { call(input, &at) };
-        let read_only = seen(settings, input.settings.len()) == input.settings
-            && seen(limits, input.limits.len()) == input.limits
-            && seen(starts, input.starts.len()) == input.starts
-            && seen(bytes, input.bytes.len()) == input.bytes;
+        let at = self.lay(input, against);
+        let number = unsafe { call(input.entry, &at) };
+        let read_only = seen(at.settings) == input.settings
+            && seen(at.limits) == input.limits
+            && seen(at.starts) == input.starts
+            && seen(at.bytes) == input.bytes;
         let mut told = [0; OUTS];
-        told.copy_from_slice(&seen(numbers, OUTS));
+        told.copy_from_slice(&seen(at.outs));
         let after = After {
             number,
-            words: seen(words, input.words.len()),
-            out: seen(out, input.out.len()),
+            words: seen(at.words),
+            out: seen(at.out),
             numbers: told,
             untouched: read_only,
         };
@@ -95,190 +80,66 @@ impl Lent {
             ..after
         }
     }
-}
 
-/// Where everything lies.
-struct At {
-    settings: *mut u64,
-    words: *mut u64,
-    limits: *mut u64,
-    starts: *mut u64,
-    bytes: *mut u8,
-    out: *mut u8,
-    numbers: *mut u64,
-}
-
-/// The entry point itself.
-///
-/// Safety: every pointer is that of memory of the length beside it.
-unsafe fn call(input: &Input, at: &At) -> u64 {
-    let (settings, settings_len) = (at.settings.cast_const(), input.settings.len());
-    let (words, words_len) = (at.words, input.words.len());
-    let (limits, limits_len) = (at.limits.cast_const(), input.limits.len());
-    let (bytes, bytes_len) = (at.bytes.cast_const(), input.bytes.len());
-    let n = input.numbers;
-    let out = |number: usize| unsafe { at.numbers.add(number) };
-    let ask = |call: Ask| unsafe {
-        call(
-            settings,
-            settings_len,
-            words,
-            words_len,
-            n.register,
-            n.fingerprint,
-            n.stamp,
-            n.reading,
-            n.flag,
-            n.kind,
-            n.number,
-            out(0),
-        )
-    };
-    unsafe {
-        match input.entry {
-            Entry::WordsNeeded => abi::strikes_words_needed(settings, settings_len, out(0)),
-            Entry::Open => abi::strikes_open(
-                settings,
-                settings_len,
-                limits,
-                limits_len,
-                at.starts,
-                input.starts.len(),
-                words,
-                words_len,
-            ),
-            Entry::Judge => ask(abi::strikes_judge),
-            Entry::JudgeBatch => ask(abi::strikes_judge_batch),
-            Entry::Take => ask(abi::strikes_take),
-            Entry::TakeBatch => ask(abi::strikes_take_batch),
-            Entry::ContainsHash => abi::strikes_contains_hash(
-                settings,
-                settings_len,
-                words,
-                words_len,
-                n.register,
-                n.fingerprint,
-                out(0),
-            ),
-            Entry::Begin => abi::strikes_begin(
-                settings,
-                settings_len,
-                words,
-                words_len,
-                n.register,
-                n.stamp,
-                out(0),
-            ),
-            Entry::Expire => {
-                abi::strikes_expire(settings, settings_len, words, words_len, n.reading)
-            }
-            Entry::Sweep => abi::strikes_sweep(
-                settings,
-                settings_len,
-                words,
-                words_len,
-                n.register,
-                n.reading,
-            ),
-            Entry::SetLimits => abi::strikes_set_limits(
-                settings,
-                settings_len,
-                words,
-                words_len,
-                limits,
-                limits_len,
-            ),
-            Entry::Close => abi::strikes_close(settings, settings_len, words, words_len),
-            Entry::Dump => abi::strikes_dump(
-                settings,
-                settings_len,
-                words,
-                words_len,
-                n.register,
-                at.out,
-                input.out.len(),
-                out(0),
-            ),
-            Entry::Restore => abi::strikes_restore(
-                settings,
-                settings_len,
-                words,
-                words_len,
-                n.register,
-                bytes,
-                bytes_len,
-                out(0),
-                out(1),
-            ),
-            Entry::Resume => abi::strikes_resume(
-                settings,
-                settings_len,
-                words,
-                words_len,
-                n.register,
-                bytes,
-                bytes_len,
-                n.flag,
-                n.stamp,
-                out(0),
-                out(1),
-            ),
-            Entry::Floor => abi::strikes_floor(
-                settings,
-                settings_len,
-                words,
-                words_len,
-                n.register,
-                out(0),
-                out(1),
-            ),
-            Entry::Pending => {
-                abi::strikes_pending(settings, settings_len, words, words_len, n.register, out(0))
-            }
-            Entry::Swept => abi::strikes_swept(
-                settings,
-                settings_len,
-                words,
-                words_len,
-                n.register,
-                out(0),
-                out(1),
-            ),
-            Entry::Held => abi::strikes_held(
-                settings,
-                settings_len,
-                words,
-                words_len,
-                n.kind,
-                n.number,
-                out(0),
-            ),
-            Entry::Class => abi::strikes_class(
-                settings,
-                settings_len,
-                words,
-                words_len,
-                n.class,
-                out(0),
-                out(1),
-                out(2),
-                out(3),
-            ),
+    fn lay(&mut self, input: &Input, against: Against) -> At {
+        let n = input.numbers;
+        At {
+            settings: self.settings.lay_words(&input.settings, against),
+            words: self.words.lay_words(&input.words, against),
+            limits: self.limits.lay_words(&input.limits, against),
+            starts: self.starts.lay_words(&input.starts, against),
+            bytes: self.bytes.lay(&input.bytes, against),
+            out: self.out.lay(&input.out, against),
+            register: n.register,
+            fingerprint: n.fingerprint,
+            stamp: n.stamp,
+            reading: n.reading,
+            flag: n.flag,
+            kind: n.kind,
+            number: n.number,
+            class: n.class,
+            floor: n.stamp,
+            outs: self.numbers.lay_words(&BEFORE, against),
         }
     }
 }
 
-type Ask = unsafe extern "C" fn(
-    *const u64,
-    usize,
-    *mut u64,
-    usize,
-    u64,
-    u64,
-    u64,
-    u64,
-    u64,
-    u64,
-    u64,
-    *mut u64,
-) -> u64;
+/// The arguments of all entry points by their names, and where the out numbers lie.
+struct At {
+    settings: *const [u64],
+    words: *mut [u64],
+    limits: *const [u64],
+    starts: *const [u64],
+    bytes: *const [u8],
+    out: *mut [u8],
+    register: u64,
+    fingerprint: u64,
+    stamp: u64,
+    reading: u64,
+    flag: u64,
+    kind: u64,
+    number: u64,
+    class: u64,
+    floor: u64,
+    outs: *mut [u64],
+}
+
+macro_rules! calls {
+    ($($(#[$doc:meta])* $name:ident($($arg:ident $(: $run:ty)?),*) -> ($($out:ident),*);)*) => {
+        /// The entry point itself, with the arguments and the out numbers that it has in the table.
+        ///
+        /// Safety: all memory was laid down.
+        unsafe fn call(entry: Entry, at: &At) -> u64 {
+            let mut places = 0..OUTS;
+            let mut place_of = |out: &str| match places.next() {
+                Some(place) => unsafe { at.outs.cast::<u64>().add(place) },
+                None => panic!("there is no place for {out}"),
+            };
+            match entry {
+                $(Entry::$name => unsafe { abi::$name($(at.$arg,)* $(place_of(stringify!($out))),*) }),*
+            }
+        }
+    };
+}
+
+strikes::entries!(calls);

@@ -122,7 +122,7 @@ impl Counts {
                 *self.rules.entry(format!("{rule:?}")).or_default() += 1;
             }
             Due::Number(1 | 2) => {}
-            _ => altered.0 += u64::from(!matches!(input.entry, Entry::Open | Entry::WordsNeeded)),
+            _ => altered.0 += u64::from(!matches!(input.entry, Entry::open | Entry::words_needed)),
         }
     }
 

@@ -114,41 +114,36 @@ fn call_line(input: &Input) -> String {
         number,
         class,
     } = input.numbers;
-    let ask = |form: &str| {
-        format!("{form} {register} {fingerprint} {stamp} {reading} {flag} k:{kind}:{number}")
+    let (limits, bytes) = (&input.limits, Hex(&input.bytes));
+    let parts = match input.entry {
+        Entry::words_needed => return "# words_needed".into(),
+        Entry::close => return "close".into(),
+        Entry::open => {
+            return format!(
+                "# open with limits {limits:?} and starts {:?}",
+                input.starts
+            );
+        }
+        Entry::set_limits => {
+            return limits
+                .iter()
+                .fold("limits".into(), |line, limit| format!("{line} {limit}"));
+        }
+        Entry::judge | Entry::judge_batch | Entry::take | Entry::take_batch => {
+            format!("{register} {fingerprint} {stamp} {reading} {flag} k:{kind}:{number}")
+        }
+        Entry::contains_hash => format!("{register} {fingerprint}"),
+        Entry::begin => format!("{register} {stamp}"),
+        Entry::expire => format!("{reading}"),
+        Entry::sweep => format!("{register} {reading}"),
+        Entry::dump => format!("{register} {}", input.out.len()),
+        Entry::restore => format!("{register} {bytes}"),
+        Entry::resume if flag == 1 => format!("{register} {bytes} {stamp}"),
+        Entry::resume => format!("{register} {bytes} none"),
+        Entry::floor | Entry::pending | Entry::swept => format!("{register}"),
+        Entry::held => format!("k:{kind}:{number}"),
+        Entry::class => format!("{class}"),
     };
-    let limits = || {
-        input
-            .limits
-            .iter()
-            .map(u64::to_string)
-            .collect::<Vec<_>>()
-            .join(" ")
-    };
-    match input.entry {
-        Entry::WordsNeeded => "# words_needed".into(),
-        Entry::Open => format!(
-            "# open with limits {:?} and starts {:?}",
-            input.limits, input.starts
-        ),
-        Entry::Judge => ask("judge"),
-        Entry::JudgeBatch => ask("judge_batch"),
-        Entry::Take => ask("take"),
-        Entry::TakeBatch => ask("take_batch"),
-        Entry::ContainsHash => format!("contains_hash {register} {fingerprint}"),
-        Entry::Begin => format!("begin {register} {stamp}"),
-        Entry::Expire => format!("expire {reading}"),
-        Entry::Sweep => format!("sweep {register} {reading}"),
-        Entry::SetLimits => format!("limits {}", limits()),
-        Entry::Close => "close".into(),
-        Entry::Dump => format!("dump {register} {}", input.out.len()),
-        Entry::Restore => format!("restore {register} {}", Hex(&input.bytes)),
-        Entry::Resume if flag == 1 => format!("resume {register} {} {stamp}", Hex(&input.bytes)),
-        Entry::Resume => format!("resume {register} {} none", Hex(&input.bytes)),
-        Entry::Floor => format!("floor {register}"),
-        Entry::Pending => format!("pending {register}"),
-        Entry::Swept => format!("swept {register}"),
-        Entry::Held => format!("held k:{kind}:{number}"),
-        Entry::Class => format!("class {class}"),
-    }
+    // Its name in a list is that of the table.
+    format!("{:?} {parts}", input.entry)
 }
