@@ -22,7 +22,7 @@ use Rattle.model.proofs.BookWords.{place-exact, class-exact}
 use Rattle.model.proofs.Places.{PlacesOk, from-any}
 use Rattle.book.specs.Sums.{totals-in, totals-of}
 use Rattle.book.specs.ClassRules.{ClassIs, ClassReads, ClassTurns}
-use Rattle.pairs.proofs.Shifts.{mid-of, put-of}
+use Rattle.runs.proofs.Shifts.{mid-of, put-of}
 
 pub nobody : Place
 nobody = record { who = Relay; mark = 0; pairs = []; past = [] }

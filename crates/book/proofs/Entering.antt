@@ -23,7 +23,8 @@ use Rattle.runs.proofs.Chunks.{flat-append}
 use Rattle.runs.proofs.Words.{drop-zeros}
 use Rattle.model.specs.Widths.{class-head, place-width}
 use Rattle.model.specs.Class.{class-of}
-use Rattle.model.specs.Book.{Pair, Place, Held, total, entries, place-units, entries-in, units, entries-of, pairs-of, listed, place-free, pair-free, draw-test, granted, with-pairs, add-pair, new-place, enter}
+use Rattle.model.specs.Book.{Pair, Place, Held, total, entries, place-units, entries-in, units, entries-of, pairs-of, listed, place-free, pair-free, draw-test, granted}
+use Rattle.model.specs.Book.{with-pairs, add-pair, new-place, enter}
 use Rattle.model.specs.BookWords.{most-entries, pairs-sound, encode-place, place-form, class-form}
 use Rattle.model.proofs.BookKept.{granted-is}
 use Rattle.model.proofs.BookWords.{read-flat}
@@ -36,7 +37,7 @@ use Rattle.book.specs.Rules.{if-none}
 use Rattle.pairs.specs.Pairs.{before, second-at, count-at, raise-at, insert-at}
 use Rattle.book.specs.PlaceRules.{pairs-in, Wide, Has, Fits, raised-place, longer-place, headed, opened-words}
 use Rattle.book.specs.ClassRules.{ClassIs, ClassReads, ClassTurns, place-index, spot-of, Found, Roomy, BodyTurns, entered, drawn-class}
-use Rattle.pairs.proofs.Shifts.{mid-of, put-of}
+use Rattle.runs.proofs.Shifts.{mid-of, put-of}
 use Rattle.pairs.proofs.PairLists.{before-le, second-below, add-listed, add-new}
 use Rattle.book.proofs.ClassWords.{nobody, only, reads-one, turns-one, flat-cons, flat-long, up-flat, each-ok, few, holders-are, totals-are, words-are, here-ok, put-here, place-long}
 use Rattle.book.proofs.ClassLists.{index-le, entries-none, entries-at, enter-at, enter-none}
@@ -122,7 +123,9 @@ module _ (b : Shares) (who : Deliverer) (ws : List ℕ) (spot : Spot) (r : Roomy
       W = place-width (b .pairs)
 
       abbrev lead : List ℕ
-      lead = entries-in (r .found .class .is .value .places) ∷ length (r .found .class .is .value .places) ∷ units b (r .found .class .is .value .places) ∷ r .found .class .is .value .expired ∷ flat encode-place (r .found .class .is .value .places)
+      lead =
+          entries-in (r .found .class .is .value .places) ∷ length (r .found .class .is .value .places) ∷ units b (r .found .class .is .value .places) ∷ r .found .class
+          .is .value .expired ∷ flat encode-place (r .found .class .is .value .places)
 
       abbrev left : List ℕ
       left = replicate ((b .places - suc (length (r .found .class .is .value .places))) * place-width (b .pairs)) 0
@@ -160,7 +163,8 @@ module _ (b : Shares) (who : Deliverer) (ws : List ℕ) (spot : Spot) (r : Roomy
           let p : putMid a (e - a) ws ys ≡ lead ++ (encode-place n ++ left) = rw (size, words-new, y) (put-of lead (replicate W 0) left (encode-place n) a W lead-is (length-replicate W 0)) in
           let k = fits in
           let l : length (xs ++ n ∷ []) ≡ suc (length xs) = length-append xs (n ∷ []) ∙ omega arith in
-          let q : flat encode-place (xs ++ n ∷ []) ++ left ≡ flat encode-place xs ++ (encode-place n ++ left) = rw (flat-append encode-place xs (n ∷ []), flat-cons n [], append-assoc, append-assoc) (nothing-more xs n left) in
+          let q : flat encode-place (xs ++ n ∷ []) ++ left ≡ flat encode-place xs ++ (encode-place n ++ left) = rw
+          (flat-append encode-place xs (n ∷ []), flat-cons n [], append-assoc, append-assoc) (nothing-more xs n left) in
           body-one b (class-of who) ws (putMid a (e - a) ws ys) (cw .is) (enter b who (spot .second))
           (ap (drop class-head) p ∙ sym q ∙ same-many b (class-of who) (suc (length xs)) (xs ++ n ∷ []) l (omega arith)
           ∙ ap (encUp (place-form (class-of who) (b .pairs)) (b .places)) (sym (enter-none who (spot .second) b xs (let g = no-place in let j = (at-index b who ws spot (r .found)) in omega arith))))
@@ -179,7 +183,8 @@ module _ (b : Shares) (who : Deliverer) (ws : List ℕ) (spot : Spot) (r : Roomy
           let l = (has-one b who ws spot (r .found) some) in
           let p = put-here b (class-of who) ws cw i l a e ha he q ys is in
           let n : length (take i xs ++ q ∷ drop (suc i) xs) ≡ length xs = length-append (take i xs) (q ∷ drop (suc i) xs) ∙ rw (length-take-le i xs (omega arith), length-drop) (omega arith) in
-          let x : take i xs ++ q ∷ drop (suc i) xs ≡ enter b who (spot .second) xs = ap (λ (z : Place). take i xs ++ z ∷ drop (suc i) xs) same ∙ sym (enter-at who (spot .second) b xs i (sym (at-index b who ws spot (r .found))) l) in
+          let x : take i xs ++ q ∷ drop (suc i) xs ≡ enter b who (spot .second) xs = ap (λ (z : Place). take i xs ++ z ∷ drop (suc i) xs) same ∙ sym
+          (enter-at who (spot .second) b xs i (sym (at-index b who ws spot (r .found))) l) in
           body-one b (class-of who) ws (putMid a (e - a) ws ys) (cw .is) (enter b who (spot .second))
           (p ∙ same-many b (class-of who) (length xs) (take i xs ++ q ∷ drop (suc i) xs) n (few b (class-of who) ws cw) ∙ ap (encUp (place-form (class-of who) (b .pairs)) (b .places)) x)
 
@@ -191,14 +196,23 @@ module _ (b : Shares) (who : Deliverer) (ws : List ℕ) (spot : Spot) (r : Roomy
         pub raise-asks : Wide (midOf a (e - a) ws) × (spot .before < getD (midOf a (e - a) ws) 3 0) × (count-at (spot .before) (pairs-in (midOf a (e - a) ws)) ≤ most-entries)
         raise-asks =
             let m = count-most (spot .before) (now .pairs) in
-            let f = (here-fine b who ws spot (r .found) some a e ha he) .few in
-            ((wide b who ws spot (r .found) some a e ha he), rw (here-seen b who ws spot (r .found) some a e ha he) there, rw ((here-seen b who ws spot (r .found) some a e ha he), count-in now (spot .before)) (omega arith))
+            let f = (here-fine b who ws spot (r .found) some a e ha he) .few in (
+              (wide b who ws spot (r .found) some a e ha he),
+              rw (here-seen b who ws spot (r .found) some a e ha he) there,
+              rw
+                  ((here-seen b who ws spot (r .found) some a e ha he), count-in now (spot .before)) (omega arith),
+            )
 
         pub enters-listed : (ys : List ℕ) → Turns encode-place (Has (spot .before)) (raised-place (spot .before)) (λ p. tt {0}) (midOf a (e - a) ws) ys (tt {0})
             → BodyTurns b (class-of who) (enter b who (spot .second)) ws (putMid a (e - a) ws ys)
         enters-listed ys t =
-            let y = t .does now (record { there = there; some = count-some 0 (spot .before) (now .pairs) ((here-fine b who ws spot (r .found) some a e ha he) .pairs) there }) (here-seen b who ws spot (r .found) some a e ha he) in
-            let s : second-at (spot .second) (before (spot .second) (now .pairs)) (now .pairs) ≡ true = rw (← (before-is b who ws spot (r .found) some a e ha he)) (sym (hit b who ws spot (r .found) some a e ha he) ∙ yes) in
+            let y = t .does now (record {
+              there = there;
+              some = count-some 0 (spot .before) (now .pairs) ((here-fine b who ws spot (r .found) some a e ha he) .pairs)
+                  there;
+            }) (here-seen b who ws spot (r .found) some a e ha he) in
+            let s : second-at (spot .second) (before (spot .second) (now .pairs)) (now .pairs) ≡ true = rw (← (before-is b who ws spot (r .found) some a e ha he))
+            (sym (hit b who ws spot (r .found) some a e ha he) ∙ yes) in
             let q : add-pair (spot .second) (now .pairs) ≡ raise-at (spot .before) (now .pairs) = add-listed (spot .second) (now .pairs) s ∙ rw (before-is b who ws spot (r .found) some a e ha he) in
             enters-here (raised-place (spot .before) now) ys (y .0) (ap (λ (z : List Pair). with-pairs z now) (sym q))
 
@@ -216,8 +230,12 @@ module _ (b : Shares) (who : Deliverer) (ws : List ℕ) (spot : Spot) (r : Roomy
 
         pub insert-asks : Wide (midOf a (e - a) ws) × (spot .before ≤ getD (midOf a (e - a) ws) 3 0) × (place-width (getD (midOf a (e - a) ws) 3 0 + 1) ≤ length (midOf a (e - a) ws))
         insert-asks =
-            let k = below-most in
-            ((wide b who ws spot (r .found) some a e ha he), rw (here-seen b who ws spot (r .found) some a e ha he) at-most, rw ((here-seen b who ws spot (r .found) some a e ha he), place-long (class-of who) (b .pairs) now (here-fine b who ws spot (r .found) some a e ha he)) (omega arith))
+            let k = below-most in (
+              (wide b who ws spot (r .found) some a e ha he),
+              rw (here-seen b who ws spot (r .found) some a e ha he) at-most,
+              rw
+                  ((here-seen b who ws spot (r .found) some a e ha he), place-long (class-of who) (b .pairs) now (here-fine b who ws spot (r .found) some a e ha he)) (omega arith),
+            )
 
         pub enters-pair : (ys : List ℕ) → Turns encode-place (Fits (spot .before)) (longer-place (spot .before) (spot .second)) (λ p. tt {0}) (midOf a (e - a) ws) ys (tt {0})
             → BodyTurns b (class-of who) (enter b who (spot .second)) ws (putMid a (e - a) ws ys)
@@ -225,8 +243,10 @@ module _ (b : Shares) (who : Deliverer) (ws : List ℕ) (spot : Spot) (r : Roomy
             let k = below-most in
             let c = (here-fine b who ws spot (r .found) some a e ha he) .cells in
             let y = t .does now (record { there = at-most; room = omega arith }) (here-seen b who ws spot (r .found) some a e ha he) in
-            let s : second-at (spot .second) (before (spot .second) (now .pairs)) (now .pairs) ≡ false = rw (← (before-is b who ws spot (r .found) some a e ha he)) (sym (hit b who ws spot (r .found) some a e ha he) ∙ not-yet) in
-            let q : add-pair (spot .second) (now .pairs) ≡ insert-at (spot .before) (spot .second) (now .pairs) = add-new (spot .second) (now .pairs) s ∙ rw (before-is b who ws spot (r .found) some a e ha he) in
+            let s : second-at (spot .second) (before (spot .second) (now .pairs)) (now .pairs) ≡ false = rw (← (before-is b who ws spot (r .found) some a e ha he))
+            (sym (hit b who ws spot (r .found) some a e ha he) ∙ not-yet) in
+            let q : add-pair (spot .second) (now .pairs) ≡ insert-at (spot .before) (spot .second) (now .pairs) = add-new (spot .second) (now .pairs) s ∙ rw
+            (before-is b who ws spot (r .found) some a e ha he) in
             enters-here (longer-place (spot .before) (spot .second) now) ys (y .0) (ap (λ (z : List Pair). with-pairs z now) (sym q))
 
 -- ---- the totals of a class that a draw entered
@@ -235,7 +255,8 @@ pub taken-are : (b : Shares) (c : Class) (who : Deliverer) (s : ℕ) (h : Held) 
 taken-are b c who s h ok =
     let e = entries-enter b who s (h .places) in
     let n : length (h .places) + if-none (entries-of who (h .places)) 1 ≡ length (enter b who s (h .places)) = sym (length-enter c (b .pairs) b who s 0 (h .places) ok ∙ holders-sum who (h .places)) in
-    let u : units b (h .places) + 1 + if-none (entries-of who (h .places)) (place-units b who) ≡ units b (enter b who s (h .places)) = sym (units-enter c (b .pairs) b who s 0 (h .places) ok ∙ units-sum b who (h .places)) in
+    let u : units b (h .places) + 1 + if-none (entries-of who (h .places)) (place-units b who) ≡ units b (enter b who s (h .places)) = sym
+    (units-enter c (b .pairs) b who s 0 (h .places) ok ∙ units-sum b who (h .places)) in
     let m : entries-in (h .places) + 1 ≡ entries-in (enter b who s (h .places)) = omega arith in
     λ i. record { entries = m i; holders = n i; units = u i; expired = h .expired }
 

@@ -25,7 +25,8 @@ use Rattle.model.specs.Numbers.{top32}
 use Rattle.model.specs.Widths.{class-head, place-head, place-width}
 use Rattle.model.specs.Settings.{shares-fit}
 use Rattle.model.specs.Class.{class-of, same-deliverer}
-use Rattle.model.specs.Book.{Place, entries, place-units, entries-in, units, entries-of, pairs-of, listed, holders-with, own-after, units-after, place-free, pair-free, draw-room, draw-limits, draw-test}
+use Rattle.model.specs.Book.{Place, entries, place-units, entries-in, units, entries-of, pairs-of, listed, holders-with, own-after, units-after, place-free, pair-free}
+use Rattle.model.specs.Book.{draw-room, draw-limits, draw-test}
 use Rattle.model.specs.BookWords.{most-entries, pair-words, encode-place, PlaceOk, distinct, class-form}
 use Rattle.model.proofs.Bounds.{shares-bounds}
 use Rattle.model.proofs.BookWords.{read-flat, length-pairs, class-exact, same-class-is}

@@ -1,4 +1,6 @@
--- How totals are lent, for any change of them by two numbers: what the functions that do it have in common. One takes the totals by `&mut`, hands them by value to the function that does the work and stores what that returned (LentTotals.antt). Another, above it, takes and returns them by value, and lends them in between (LendingTotals.antt).
+-- How totals are lent, for any change of them by two numbers: what the functions that do it have in common. One takes the totals by `&mut`,
+-- hands them by value to the function that does the work and stores what that returned (LentTotals.antt). Another, above it, takes and
+-- returns them by value, and lends them in between (LendingTotals.antt).
 -- A contract is told by `Asks`, what is asked of the totals and the two numbers, and by `res`, what becomes of the totals. The MIR is written out over the key of the function that is called.
 --     cell-in, cell-out        a local that holds totals: its cell is the totals in memory, each way
 -- The definitions assume nothing. The two laws assume `Given`.
@@ -110,7 +112,8 @@ module _ (Asks : Totals → ℕ → ℕ → Type 0) (res : Totals → ℕ → �
   value-clauses 𝓤 κs a = record { ghost = Unit {0}; requires = λ _. fact 𝓤 (Asks (a .0) (a .1 .0) (a .1 .1 .0)); ensures = λ _ r _. fact 𝓤 (r ≡ res (a .0) (a .1 .0) (a .1 .1 .0)) }
 
   abbrev pub reference-clauses : {M : Type 1} (𝓤 : URA M) → Clauses 𝓤 by-reference
-  reference-clauses 𝓤 κs a = record { ghost = Unit {0}; requires = λ _. fact 𝓤 (Asks (now (a .0)) (a .1 .0) (a .1 .1 .0)); ensures = λ _ _ e. fact 𝓤 (now (e .0) ≡ res (now (a .0)) (a .1 .0) (a .1 .1 .0)) }
+  reference-clauses 𝓤 κs a =
+      record { ghost = Unit {0}; requires = λ _. fact 𝓤 (Asks (now (a .0)) (a .1 .0) (a .1 .1 .0)); ensures = λ _ _ e. fact 𝓤 (now (e .0) ≡ res (now (a .0)) (a .1 .0) (a .1 .1 .0)) }
 
   module _ {M : Type 1} (𝓤 : URA M) (H : Heap 𝓤) (A : Atoms 𝓤) where
     abbrev pub Value : Contract 𝓤

@@ -30,9 +30,10 @@ use Rattle.book.specs.Rules.{if-one}
 use Rattle.pairs.specs.Pairs.{before, second-at, count-at, lower-at, remove-at}
 use Rattle.book.specs.PlaceRules.{pairs-in, Wide, Has, Single, lowered-place, shorter-place}
 use Rattle.book.specs.ClassRules.{ClassIs, ClassReads, ClassTurns, place-index, spot-of, Found, Listed, BodyTurns, returned}
-use Rattle.pairs.proofs.Shifts.{mid-of, put-of}
+use Rattle.runs.proofs.Shifts.{mid-of, put-of}
 use Rattle.pairs.proofs.PairLists.{second-below, lower-many, lower-last, lower-none, listed-at}
-use Rattle.book.proofs.ClassWords.{nobody, turns-one, flat-long, up-flat, few, cut, back-ok, holders-are, totals-are, words-cut, lead, lead-long, rest, here-ok, seen-here, put-here, front-long, place-long}
+use Rattle.book.proofs.ClassWords.{nobody, turns-one, flat-long, up-flat, few, cut, back-ok, holders-are, totals-are, words-cut, lead, lead-long, rest, here-ok}
+use Rattle.book.proofs.ClassWords.{seen-here, put-here, front-long, place-long}
 use Rattle.book.proofs.ClassLists.{index-same, entries-at, pairs-at, pairs-none, back-at, back-none, entries-append, units-append}
 use Rattle.book.proofs.Spots.{at-index, at-entries, at-listed, at-before, has-one}
 use Rattle.book.proofs.Finding.{place-wide}
@@ -201,18 +202,21 @@ module _ (b : Shares) (who : Deliverer) (ws : List ℕ) (spot : Spot) (f : Found
             let lb : length (flat encode-place back) ≡ length back * W = flat-long c (b .pairs) 0 back (back-ok b c ws w i at-one) in
             let n : getD ws 1 0 ≡ length xs = holders-are b c ws w in
             let m : length xs ≡ i + suc (length back) = rw (front-long b c ws w i at-one) at length-cut in
-            let k : getD ws 1 0 * W ≡ i * W + (W + length back * W) = ap (λ (y : ℕ). y * W) (n ∙ m) ∙ add-mul i (suc (length back)) W ∙ ap (λ (y : ℕ). i * W + y) (suc-mul (length back) W ∙ add-comm (length back * W) W) in
+            let k : getD ws 1 0 * W ≡ i * W + (W + length back * W) = ap (λ (y : ℕ). y * W) (n ∙ m) ∙ add-mul i (suc (length back)) W ∙ ap (λ (y : ℕ). i * W + y)
+            (suc-mul (length back) W ∙ add-comm (length back * W) W) in
             let lv : length v ≡ e - a = length-append (encode-place now) (flat encode-place back) ∙ omega arith in
             let x : ws ≡ u ++ (v ++ z) = words-cut b c ws w i at-one ∙ ap (λ (y : List ℕ). u ++ y) (sym (append-assoc (encode-place now) (flat encode-place back) z)) in
             let s : midOf a (e - a) ws ≡ v = ap (midOf a (e - a)) x ∙ mid-of u v z a (e - a) lu lv in
             let y : ys ≡ flat encode-place back ++ replicate W 0 = is ∙ rw s (ap (λ (q : List ℕ). q ++ replicate W 0) (drop-at (encode-place now) (flat encode-place back) W lp)) in
-            let p : putMid a (e - a) ws ys ≡ u ++ ((flat encode-place back ++ replicate W 0) ++ z) = ap₂ (putMid a (e - a)) x y ∙ put-of u v z (flat encode-place back ++ replicate W 0) a (e - a) lu lv in
+            let p : putMid a (e - a) ws ys ≡ u ++ ((flat encode-place back ++ replicate W 0) ++ z) = ap₂ (putMid a (e - a)) x y ∙ put-of u v z
+            (flat encode-place back ++ replicate W 0) a (e - a) lu lv in
             let few-now = few b c ws w in
             let fl = front-long b c ws w i at-one in
             let j : length (front ++ back) ≡ length front + length back = length-append front back in
             let o : b .places - length (front ++ back) ≡ suc (b .places - length xs) = omega arith in
             let r : replicate ((b .places - length (front ++ back)) * W) 0 ≡ replicate W 0 ++ z =
-            ap (λ (q : ℕ). replicate q 0) (ap (λ (q : ℕ). q * W) o ∙ suc-mul (b .places - length xs) W ∙ add-comm ((b .places - length xs) * W) W) ∙ sym (replicate-append-replicate W ((b .places - length xs) * W) 0) in
+            ap (λ (q : ℕ). replicate q 0) (ap (λ (q : ℕ). q * W) o ∙ suc-mul (b .places - length xs) W ∙ add-comm ((b .places - length xs) * W) W) ∙ sym
+            (replicate-append-replicate W ((b .places - length xs) * W) 0) in
             let g : flat encode-place (front ++ back) ++ replicate ((b .places - length (front ++ back)) * W) 0 ≡ flat encode-place front ++ ((flat encode-place back ++ replicate W 0) ++ z) =
             rw (r, flat-append encode-place front back, append-assoc, append-assoc) in
             body-one b c ws (putMid a (e - a) ws ys) (w .is) (give-back who (spot .second))
@@ -338,7 +342,8 @@ module _ (b : Shares) (who : Deliverer) (s : ℕ) (ws : List ℕ) (w : ClassIs b
   pub untakes-none : spot .listed ≡ false → ClassTurns b (class-of who) (returned who s) (λ h. tt {0}) ws ws (tt {0})
   unfolding found-of found
   untakes-none e =
-      let k : give-back who s (w .is .value .places) ≡ w .is .value .places = subst (λ (z : ℕ). give-back who z (w .is .value .places) ≡ w .is .value .places) (second-is b who s ws w spot r) (back-unlisted b who ws spot found e) in
+      let k : give-back who s (w .is .value .places) ≡ w .is .value .places = subst (λ (z : ℕ). give-back who z (w .is .value .places) ≡ w .is .value .places)
+      (second-is b who s ws w spot r) (back-unlisted b who ws spot found e) in
       turns-one b (class-of who) ws (w .is) (rw k (w .is .words)) refl
 
   module _ (yes : spot .listed ≡ true) where

@@ -25,7 +25,7 @@ use model::Second;
 use model::Shares;
 use numbers::layout;
 use numbers::starts;
-use pairs::moves;
+use runs::moves;
 
 // What a class holds of one deliverer and one second: the deliverer's place (the first unused one where it has none), its entries
 // and pairs, how many of the pairs are earlier than the second, and whether the second is listed.

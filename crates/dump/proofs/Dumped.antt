@@ -132,22 +132,28 @@ module _ (u : Usable) (reg : Register) (ok : register-form u .Ok reg) (ws : List
   feeders =
       let l = ok .0 in
       rw is
-      (first-of (encode-heading u (of-register reg .head)) (words-of-ring (reg .rings .of-feeders)) (words-of-ring (reg .rings .of-peers)) (words-of-ring (reg .rings .of-own)) heading-width (ring-of u * wide) (omega arith)
-      (ring-long (u .slots) (ring-of u) (reg .rings .of-feeders) (ok .1 .0)) (ring-long (u .slots) (ring-of u) (reg .rings .of-peers) (ok .1 .1 .0)) (ring-long (u .slots) (ring-of u) (reg .rings .of-own) (ok .1 .1 .1)))
+      (first-of (encode-heading u (of-register reg .head)) (words-of-ring (reg .rings .of-feeders)) (words-of-ring (reg .rings .of-peers))
+      (words-of-ring (reg .rings .of-own)) heading-width (ring-of u * wide) (omega arith)
+      (ring-long (u .slots) (ring-of u) (reg .rings .of-feeders) (ok .1 .0)) (ring-long (u .slots) (ring-of u) (reg .rings .of-peers) (ok .1 .1 .0))
+      (ring-long (u .slots) (ring-of u) (reg .rings .of-own) (ok .1 .1 .1)))
 
   peers : ring-at wide (ring-of u) 1 ws ≡ words-of-ring (reg .rings .of-peers)
   peers =
       let l = ok .0 in
       rw is
-      (second-of (encode-heading u (of-register reg .head)) (words-of-ring (reg .rings .of-feeders)) (words-of-ring (reg .rings .of-peers)) (words-of-ring (reg .rings .of-own)) heading-width (ring-of u * wide) (omega arith)
-      (ring-long (u .slots) (ring-of u) (reg .rings .of-feeders) (ok .1 .0)) (ring-long (u .slots) (ring-of u) (reg .rings .of-peers) (ok .1 .1 .0)) (ring-long (u .slots) (ring-of u) (reg .rings .of-own) (ok .1 .1 .1)))
+      (second-of (encode-heading u (of-register reg .head)) (words-of-ring (reg .rings .of-feeders)) (words-of-ring (reg .rings .of-peers))
+      (words-of-ring (reg .rings .of-own)) heading-width (ring-of u * wide) (omega arith)
+      (ring-long (u .slots) (ring-of u) (reg .rings .of-feeders) (ok .1 .0)) (ring-long (u .slots) (ring-of u) (reg .rings .of-peers) (ok .1 .1 .0))
+      (ring-long (u .slots) (ring-of u) (reg .rings .of-own) (ok .1 .1 .1)))
 
   own : ring-at wide (ring-of u) 2 ws ≡ words-of-ring (reg .rings .of-own)
   own =
       let l = ok .0 in
       rw is
-      (third-of (encode-heading u (of-register reg .head)) (words-of-ring (reg .rings .of-feeders)) (words-of-ring (reg .rings .of-peers)) (words-of-ring (reg .rings .of-own)) heading-width (ring-of u * wide) (omega arith)
-      (ring-long (u .slots) (ring-of u) (reg .rings .of-feeders) (ok .1 .0)) (ring-long (u .slots) (ring-of u) (reg .rings .of-peers) (ok .1 .1 .0)) (ring-long (u .slots) (ring-of u) (reg .rings .of-own) (ok .1 .1 .1)))
+      (third-of (encode-heading u (of-register reg .head)) (words-of-ring (reg .rings .of-feeders)) (words-of-ring (reg .rings .of-peers))
+      (words-of-ring (reg .rings .of-own)) heading-width (ring-of u * wide) (omega arith)
+      (ring-long (u .slots) (ring-of u) (reg .rings .of-feeders) (ok .1 .0)) (ring-long (u .slots) (ring-of u) (reg .rings .of-peers) (ok .1 .1 .0))
+      (ring-long (u .slots) (ring-of u) (reg .rings .of-own) (ok .1 .1 .1)))
 
   -- what is written
   pub register-is : register-words wide (ring-of u) ws ≡ dump-words reg
@@ -155,7 +161,18 @@ module _ (u : Usable) (reg : Register) (ok : register-form u .Ok reg) (ws : List
   register-is =
       let a = ap (λ (l : List ℕ). getD l 8 0) is in
       let b = ap (λ (l : List ℕ). getD l 9 0) is in
-      rw (a, b, floor-is (reg .floor), feeders, peers, own, ring-is (u .slots) (ring-of u) (reg .rings .of-feeders) (ok .1 .0), ring-is (u .slots) (ring-of u) (reg .rings .of-peers) (ok .1 .1 .0), ring-is (u .slots) (ring-of u) (reg .rings .of-own) (ok .1 .1 .1))
+      rw (
+        a,
+        b,
+        floor-is (reg .floor),
+        feeders,
+        peers,
+        own,
+        ring-is (u .slots) (ring-of u) (reg .rings .of-feeders) (ok .1 .0),
+        ring-is (u .slots) (ring-of u)
+            (reg .rings .of-peers) (ok .1 .1 .0),
+        ring-is (u .slots) (ring-of u) (reg .rings .of-own) (ok .1 .1 .1),
+      )
 
   -- how many bytes it has
   pub register-counted : register-long wide (ring-of u) ws ≡ length (dump-bytes reg)

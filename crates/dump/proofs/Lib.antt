@@ -5,3 +5,4 @@ pub mod Passing
 pub mod Walks
 pub mod Dumping
 pub mod Dumped
+pub mod Writes

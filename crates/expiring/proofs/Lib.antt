@@ -1,1 +1,2 @@
+pub mod LeastOf
 pub mod Passing

@@ -4,6 +4,7 @@ use mathlib.Core.Path.{_≡_, refl, sym, ap, subst, _∙_}
 use mathlib.Core.List.{List}
 use borrow.Rule.Slice.PartMut.{midOf, putMid}
 use Rattle.runs.proofs.Turns.{then}
+use Rattle.runs.specs.Turns.{silent}
 use Rattle.model.specs.declared.Class.{Class}
 use Rattle.model.specs.declared.Class.the-variants.{Feeders, Peers, Own}
 use Rattle.model.specs.declared.Settings.{Settings}
@@ -21,7 +22,7 @@ use Rattle.model.proofs.SoundnessKept.{book-in, with-book-ok}
 use Rattle.book.specs.ClassRules.{ClassTurns}
 use Rattle.taking.specs.Words.{RunWords, StateReads, StateTurns}
 use Rattle.taking.proofs.InRun.{run-words, class-turns}
-use Rattle.expiring.specs.Rules.{book-expired, class-expired, silent}
+use Rattle.expiring.specs.Rules.{book-expired, class-expired}
 
 -- ---- one class: the state stays well formed
 book-expired-ok : (b : Shares) (c : Class) (t : ℕ) → t ≤ top32 → (k : Book) → BookOk b k → BookOk b (book-expired c t k)
@@ -45,7 +46,7 @@ module _ (s : Settings) where
   module _ (c : Class) (a e : ℕ) (start : a ≡ class-start s c) (end : e ≡ a + class-width (s .shares)) (ws last : List ℕ) where
     class-passes : (t : ℕ) → ClassTurns (s .shares) c (expire-class t) (λ h. tt {0}) (midOf a (e - a) ws) last (tt {0})
         → StateTurns s (class-expired c t) silent ws (putMid a (e - a) ws last) (tt {0})
-    unfolding class-expired silent
+    unfolding class-expired
     class-passes t turn = class-turns s c a e start end turn
 
     pub class-done : (t : ℕ) → t ≤ top32 → RunWords s ws → ClassTurns (s .shares) c (expire-class t) (λ h. tt {0}) (midOf a (e - a) ws) last (tt {0})
@@ -70,7 +71,6 @@ module _ (s : Settings) where
     pub all-done : (ws one two last : List ℕ) → StateReads s (λ x. least-published s 0 (x .registers) ms) ws least
         → StateTurns s (class-expired Feeders t) silent ws one (tt {0}) → StateTurns s (class-expired Peers t) silent one two (tt {0})
         → StateTurns s (class-expired Own t) silent two last (tt {0}) → StateTurns s (λ x. step s (Expire ms) x .state) silent ws last (tt {0})
-    unfolding silent
     all-done ws one two last reads feeders peers own =
         let all = then (class-expired-ok Feeders t (second-low n t capped)) feeders (then (class-expired-ok Peers t (second-low n t capped)) peers own) in
         record { does = λ x ok is. (all .does x ok is .0 ∙ ap (state-form s .enc) (three-are x (reads .says x ok is)), refl) }

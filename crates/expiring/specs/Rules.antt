@@ -11,7 +11,3 @@ book-expired c t k = record { limits = k .limits; closed = k .closed; classes = 
 
 unfoldable pub class-expired : Class → ℕ → State → State
 class-expired c t w = with-book (book-expired c t (w .book)) w
-
--- nothing is answered
-unfoldable pub silent : State → Unit {0}
-silent w = tt

@@ -10,6 +10,7 @@ use borrow.Rule.Slice.PartMut.{putMid, midOf}
 use Rattle.runs.specs.Words.{pad}
 use Rattle.runs.proofs.Words.{length-pad, drop-zeros, pad-fits}
 use Rattle.runs.proofs.Firsts.{firsts-are}
+use Rattle.runs.specs.Turns.{silent}
 use Rattle.model.specs.Widths.{generation-head, generation-width}
 use Rattle.model.specs.Generation.{count, among, put, grown, slots-for, insert}
 use Rattle.model.proofs.Probing.{put-length}
@@ -18,7 +19,7 @@ use Rattle.model.proofs.GenerationWords.{generation-wide, live-pad}
 use Rattle.generation.specs.declared.Generation.{Generation as Leading}
 use Rattle.generation.specs.Slots.{slots-after, Puts}
 use Rattle.generation.specs.Rules.{with-slots-for, entered}
-use Rattle.generation.specs.Words.{Bounded, Roomy, Leads, led-by, silent, GenerationReads, GenerationTurns, FittingTurns}
+use Rattle.generation.specs.Words.{Bounded, Roomy, Leads, led-by, GenerationReads, GenerationTurns, FittingTurns}
 use Rattle.generation.proofs.Doubling.{slots-are, slots-more}
 use Rattle.generation.proofs.Looking.{lent-slots, with-lent, slots-part}
 

@@ -47,7 +47,3 @@ GenerationTurns f out before after r = (S n i : ℕ) → Turns (encode-generatio
 -- the same of one whose slots only fit the run, as while it is being filled
 abbrev pub FittingTurns : {R : Type 0} → (Generation → Generation) → (Generation → R) → List ℕ → List ℕ → R → Type 0
 FittingTurns f out before after r = (S : ℕ) → Turns (encode-generation S) (λ g. length (g .slots) ≤ S) f out before after r
-
--- no answer
-abbrev pub silent : Generation → Unit {0}
-silent g = tt

@@ -11,10 +11,11 @@ use numbers::layout;
 ghost use mathlib.Core.Path.{_≡_};
 ghost use Prim.Native.Nat.{_≤_, _<_};
 ghost use lib.ListN.{length};
+ghost use Rattle.runs.specs.Turns.{silent};
 ghost use Rattle.model.specs.Widths.{generation-head};
 ghost use Rattle.model.specs.Generation.{among, insert, dropped};
 ghost use Rattle.generation.specs.Rules.{holds-in, room-in, with-slots-for, entered, drop-says, dropped-in, drop-in-says, swept-at, sweep-says};
-ghost use Rattle.generation.specs.Words.{Bounded, Roomy, Leads, led-by, opened, silent, GenerationReads, GenerationTurns, FittingTurns};
+ghost use Rattle.generation.specs.Words.{Bounded, Roomy, Leads, led-by, opened, GenerationReads, GenerationTurns, FittingTurns};
 
 mod crowded;
 mod slots;

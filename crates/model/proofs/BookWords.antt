@@ -23,7 +23,8 @@ use Rattle.model.specs.Numbers.{top32}
 use Rattle.model.specs.Widths.{place-width}
 use Rattle.model.specs.Class.{class-number, class-of, kind-of, same-class}
 use Rattle.model.specs.Book.{Pair, Place, total, entries}
-use Rattle.model.specs.BookWords.{most-entries, pair-words, read-pairs, pairs-sound, number-word, read-who, read-mark, kind-sound, encode-place, read-place, place-sound, PlaceOk, place-form, used-place, places-rule, places-form, expired-form, totals-words, held-of, of-held, class-form}
+use Rattle.model.specs.BookWords.{most-entries, pair-words, read-pairs, pairs-sound, number-word, read-who, read-mark, kind-sound, encode-place, read-place}
+use Rattle.model.specs.BookWords.{place-sound, PlaceOk, place-form, used-place, places-rule, places-form, expired-form, totals-words, held-of, of-held, class-form}
 
 -- ---- pairs in words: as many as are read, read back as they were written, and nothing after them is touched
 pub length-read : (n : ℕ) (ws : List ℕ) → length (read-pairs n ws) ≡ n

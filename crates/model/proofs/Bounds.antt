@@ -27,7 +27,18 @@ power-small n t =
     (λ e.
     let h = leb-false n 1_024 e in
     let z : false ≡ true =
-    rw (ne-eqb n 2 (λ q. omega arith), ne-eqb n 4 (λ q. omega arith), ne-eqb n 8 (λ q. omega arith), ne-eqb n 16 (λ q. omega arith), ne-eqb n 32 (λ q. omega arith), ne-eqb n 64 (λ q. omega arith), ne-eqb n 128 (λ q. omega arith), ne-eqb n 256 (λ q. omega arith), ne-eqb n 512 (λ q. omega arith), ne-eqb n 1_024 (λ q. omega arith)) at t in
+    rw (
+      ne-eqb n 2 (λ q. omega arith),
+      ne-eqb n 4 (λ q. omega arith),
+      ne-eqb n 8 (λ q. omega arith),
+      ne-eqb n 16 (λ q. omega arith),
+      ne-eqb n 32 (λ q. omega arith),
+      ne-eqb n 64 (λ q. omega arith),
+      ne-eqb n 128 (λ q. omega arith),
+      ne-eqb n 256 (λ q. omega arith),
+      ne-eqb n 512 (λ q. omega arith),
+      ne-eqb n 1_024 (λ q. omega arith),
+    ) at t in
     no (cc))
 
 -- the bounds of one register's settings, and of the shares

@@ -13,7 +13,8 @@ use Rattle.runs.proofs.Cases.{by-test}
 use Rattle.model.specs.Class.{each}
 use Rattle.model.specs.Generation.{Generation, count, held}
 use Rattle.model.specs.Register.{Ring, Register}
-use Rattle.model.specs.Dump.{words-in, dumped-floor, fingerprints, held-generations, generations-words, class-words, dump-words, dump-bytes, Dumped, Dump, found-first, read-generations, read-class, read-own, read-peers, read-feeders, read-words, read-dump}
+use Rattle.model.specs.Dump.{words-in, dumped-floor, fingerprints, held-generations, generations-words, class-words, dump-words, dump-bytes, Dumped, Dump}
+use Rattle.model.specs.Dump.{found-first, read-generations, read-class, read-own, read-peers, read-feeders, read-words, read-dump}
 use Rattle.model.specs.RoundTrip.{Words64}
 use Rattle.model.proofs.BytesRead.{words-of-bytes}
 

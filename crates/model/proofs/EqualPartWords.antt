@@ -17,11 +17,14 @@ use Rattle.model.specs.Settings.{settings-of, limits-of, usable-at, sett
 use Rattle.model.specs.Book.{Place, together, places-of}
 use Rattle.model.specs.Words.{State}
 use Rattle.model.specs.Judge.{judge, take, take-batch}
-use Rattle.model.specs.Calls.{Asking, Manner, judged, taken, taken-batch, Ticket, Call, Open, On, Kind, Opens, OnOne, Sets, Other, opens, kind, ask-of, register-at, opened, after-judged, after-taken, asked, done-on, step, codes-fit, deed-fits, unfit, is-open, sound, unsound, no-such-register, late-deed, late, held-in, refused, reply, after}
+use Rattle.model.specs.Calls.{Asking, Manner, judged, taken, taken-batch, Ticket, Call, Open, On, Kind, Opens, OnOne, Sets, Other, opens, kind, ask-of, register-at}
+use Rattle.model.specs.Calls.{opened, after-judged, after-taken, asked, done-on, step, codes-fit, deed-fits, unfit, is-open, sound, unsound, no-such-register}
+use Rattle.model.specs.Calls.{deed-refusals, own-refusals, held-in, refused, reply, after}
 use Rattle.model.specs.View.{Given, answered, left-by, words-after}
 use Rattle.model.specs.Codes.{went-through}
 use Rattle.model.specs.Soundness.{Vetted}
-use Rattle.model.specs.EqualPart.{Since, limits-stay, and-then, gone-by, gone-through, heard, since-opening, answer-due, Promised, EqualPart, WordsHold, OpeningHolds, cost, HoldersKept, SharesKept}
+use Rattle.model.specs.EqualPart.{Since, limits-stay, and-then, gone-by, gone-through, heard, since-opening, answer-due, Promised, EqualPart, WordsHold}
+use Rattle.model.specs.EqualPart.{OpeningHolds, cost, HoldersKept, SharesKept}
 use Rattle.model.proofs.Refusals.{step-through}
 use Rattle.model.proofs.View.{Trimmed, brought-trimmed, kept-are, view-sound}
 use Rattle.model.proofs.Simulates.{refused-words, entered, fit-settings, reply-is, through-zero, simulates}
@@ -74,7 +77,7 @@ refused-stays st ws call h =
 
 -- ---- no refusal looks at how a ticket is asked about
 as-refused : (m : Manner) (st ws : List ℕ) (r : ℕ) (a : Asking) → refused st ws (On r (Ticket m a)) ≡ refused st ws (On r (Ticket judged a))
-unfolding refused unfit codes-fit deed-fits unsound is-open no-such-register late late-deed
+unfolding refused unfit codes-fit deed-fits unsound is-open no-such-register own-refusals deed-refusals
 as-refused m st ws r a = refl
 
 -- judge answers New: nothing refuses, and the rules judge it New

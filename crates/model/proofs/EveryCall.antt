@@ -18,7 +18,10 @@ use Rattle.model.specs.Dump.{Dump, read-dump, Restoring}
 use Rattle.model.specs.Judge.{Ask}
 use Rattle.model.specs.Words.{State}
 use Rattle.model.specs.Codes.{went-through}
-use Rattle.model.specs.Calls.{Manner, judged, judged-batch, taken, taken-batch, Deed, Ticket, ContainsHash, Begin, Sweep, DumpTo, Restore, Resume, Floor, Pending, SweptBucket, Call, Open, On, Expire, SetLimits, Close, HeldBy, ClassTotals, no-register, register-at, opened, yes-no, floor-answer, ask-of, proven-of, asked, after-judged, after-taken, after-restored, restored, resumed, least-published, class-totals, opens, beyond, deed-fits, late-deed, done-on, meaning, codes-fit}
+use Rattle.model.specs.Calls.{Manner, judged, judged-batch, taken, taken-batch, Deed, Ticket, ContainsHash, Begin, Sweep, DumpTo, Restore, Resume, Floor, Pending}
+use Rattle.model.specs.Calls.{SweptBucket, Call, Open, On, Expire, SetLimits, Close, HeldBy, ClassTotals, no-register, register-at, opened, yes-no, floor-answer}
+use Rattle.model.specs.Calls.{ask-of, proven-of, asked, after-judged, after-taken, after-restored, restored, resumed, least-published, class-totals, opens, beyond}
+use Rattle.model.specs.Calls.{deed-fits, deed-refusals, done-on, meaning, codes-fit}
 use Rattle.model.specs.Refusals.{in-order}
 use Rattle.model.specs.Once.{asks-about, takes, remakes}
 use Rattle.model.specs.EqualPart.{kind-stays}
@@ -101,7 +104,7 @@ low s r e = leb-false (s .registers) r e
 
 -- ---- every deed
 deed-lawful : (r : ℕ) (d : Deed) → Lawful (meaning (On r d))
-unfolding meaning deed-fits late-deed done-on beyond kind-stays reaches remakes asks-about takes unasked went-through opens in-order
+unfolding meaning deed-fits deed-refusals done-on beyond kind-stays reaches remakes asks-about takes unasked went-through opens in-order
 deed-lawful r (Ticket m a) = record {
   through = λ s t. asked-through s r m (ask-of a) t;
   in-order = λ s t. refl;

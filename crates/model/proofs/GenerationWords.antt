@@ -10,12 +10,13 @@ use lib.Dec.{eqb}
 use borrow.Author.Tests.{eq-eqb, ne-eqb, eqb-true, eqb-false, le-leb, leb-true}
 use Rattle.runs.specs.Words.{zeros, pad}
 use Rattle.runs.specs.Form.{Exact}
-use Rattle.runs.specs.Combine.{at-place}
+use Rattle.runs.specs.Combine.{form-at}
 use Rattle.runs.proofs.Cases.{by-test, both-true, each-true}
 use Rattle.runs.proofs.Words.{zeros-are, zeros-pass, length-pad, pad-fits}
 use Rattle.model.specs.Widths.{generation-head, generation-width}
 use Rattle.model.specs.Generation.{Generation, count}
-use Rattle.model.specs.GenerationWords.{encode-generation, read-generation, slots-sound, reached-from, filled-sound, empty-sound, room-sound, tail-sound, body-sound, generation-sound, GenerationOk, generation-place}
+use Rattle.model.specs.GenerationWords.{encode-generation, read-generation, slots-sound, reached-from, filled-sound, empty-sound, room-sound, tail-sound, body-sound}
+use Rattle.model.specs.GenerationWords.{generation-sound, GenerationOk, generation-place}
 use Rattle.model.proofs.Probing.{count≤}
 
 pub generation-wide : (S : ℕ) (g : Generation) → length (encode-generation S g) ≡ generation-width S
@@ -100,7 +101,7 @@ module _ (S n i : ℕ) (g : Generation) (ok : GenerationOk S n i g) where
   read-back : read-generation (encode-generation S g) ≡ g
   read-back j = record { bucket = g .bucket; newest = g .newest; slots = live-pad S g (ok .fits) j }
 
-pub generation-exact : (S n i : ℕ) → Exact (at-place (generation-place S n) i)
+pub generation-exact : (S n i : ℕ) → Exact (form-at (generation-place S n) i)
 generation-exact S n i = record {
   width = λ g ok. generation-wide S g;
   back = back S n i;

@@ -19,7 +19,8 @@ use Rattle.model.specs.Register.{Register}
 use Rattle.model.specs.Judge.{bucket-of, judge-batch}
 use Rattle.model.specs.Dump.{Dump, restore, resume}
 use Rattle.model.specs.Words.{State, state-form}
-use Rattle.model.specs.Calls.{Manner, judged, judged-batch, taken, taken-batch, Asking, manner-sort, no-register, register-at, with-register, ask-of, after-judged, after-taken, asked, after-restored, restored, resumed}
+use Rattle.model.specs.Calls.{Manner, judged, judged-batch, taken, taken-batch, Asking, manner-sort, no-register, register-at, with-register, ask-of, after-judged}
+use Rattle.model.specs.Calls.{after-taken, asked, after-restored, restored, resumed}
 use Rattle.model.specs.Codes.{went-through, partly}
 use Rattle.model.specs.Once.{Strike, strike-of, sort-asks, sort-takes}
 use Rattle.model.proofs.Choice.{and-false, true-false}
@@ -87,7 +88,8 @@ module _ (s : Settings) (t : Strike) (pos : 0 < t .print) where
     whole-keeps : (d : Dump) → restore (usable-at s r) (s .shares) d (register-at r x) (x .book) .whole ≡ true
         → StruckIn s t (with-register r (restore (usable-at s r) (s .shares) d (register-at r x) (x .book) .register) x)
     whole-keeps d w = put-here r x here struck _
-        (λ b fp n z k. restore-struck (usable-at s r) (s .shares) (slots-small (usable-at s r) (fit-usable s r fit h)) (pairs-some (s .shares) (fit-shares s fit)) b fp n z d (register-at r x) (x .book)
+        (λ b fp n z k. restore-struck (usable-at s r) (s .shares) (slots-small (usable-at s r) (fit-usable s r fit h)) (pairs-some (s .shares) (fit-shares s fit)) b fp n
+        z d (register-at r x) (x .book)
         (record { register = reg-ok; book = book-in s x ok }) w k)
 
     pub restored-keeps : (d : Option Dump) → (eqb (t .register) r && partly (restored s r x d .answer)) ≡ false → StruckIn s t (restored s r x d .state)

@@ -19,7 +19,8 @@ use Rattle.model.specs.declared.Usable.{Usable}
 use Rattle.runs.proofs.Cases.{by-test}
 use Rattle.model.specs.Class.{class-of, same-deliverer, swap}
 use Rattle.model.specs.Generation.{Generation, as-read, insert}
-use Rattle.model.specs.Book.{Pair, Place, Book, total, entries-of, pairs-of, together, below-share, units-after, listed, place-free, pair-free, draw-room, draw-limits, draw-test, with-pairs, add-pair, enter, second-of, draw-says, drawn, with-places}
+use Rattle.model.specs.Book.{Pair, Place, Book, total, entries-of, pairs-of, together, below-share, units-after, listed, place-free, pair-free, draw-room}
+use Rattle.model.specs.Book.{draw-limits, draw-test, with-pairs, add-pair, enter, second-of, draw-says, drawn, with-places}
 use Rattle.model.specs.Register.{Ring, Register, with-rings, generation-at, with-generation, strike}
 use Rattle.model.specs.Judge.{make-room}
 use Rattle.model.specs.Dump.{Dumped, Holding, hold-room, hold-one}

@@ -19,7 +19,8 @@ use Rattle.model.specs.Class.{class-of, Each, pick}
 use Rattle.model.specs.Generation.{as-read}
 use Rattle.model.specs.Book.{Book, second-of, granted, draw-says}
 use Rattle.model.specs.Register.{Ring, Register, generation-at, holds, any-class, sweep, begin}
-use Rattle.model.specs.Judge.{Ask, bucket-of, window-for, in-window, front-past, unjudged, verdict, Judged, judge, ahead-for, judge-batch, make-room, Taken, take-room, take-share, take-judged, take, take-batch}
+use Rattle.model.specs.Judge.{Ask, bucket-of, window-for, in-window, front-past, unjudged, verdict, Judgement, judge, ahead-for, judge-batch, make-room, Taken}
+use Rattle.model.specs.Judge.{take-room, take-share, take-judged, take, take-batch}
 use Rattle.model.proofs.Choice.{or-left, or-right, true-false}
 use Rattle.model.proofs.Struck.{In, Struck, in-class, below-floor, struck-sweep, under-raise}
 use Rattle.model.proofs.Strike.{struck-strike, struck-new}
@@ -70,16 +71,16 @@ ahead-new p Unjudged e = e
 module _ (u : Usable) (reg : Register) (a : Ask) where
   pub judge-ok : RegisterOk u reg → RegisterOk u (judge u reg a .register)
   unfolding judge
-  judge-ok ok = split-if (λ (j : Judged). RegisterOk u (j .register)) (unjudged reg a) (λ e. ok) (λ e. sweep-ok u (a .ms) reg ok)
+  judge-ok ok = split-if (λ (j : Judgement). RegisterOk u (j .register)) (unjudged reg a) (λ e. ok) (λ e. sweep-ok u (a .ms) reg ok)
 
   pub judge-keeps : (b fp t : ℕ) → Struck b fp t reg → Struck b fp t (judge u reg a .register)
   unfolding judge
-  judge-keeps b fp t s = split-if (λ (j : Judged). Struck b fp t (j .register)) (unjudged reg a) (λ e. s) (λ e. struck-sweep b fp t u (a .ms) reg s)
+  judge-keeps b fp t s = split-if (λ (j : Judgement). Struck b fp t (j .register)) (unjudged reg a) (λ e. s) (λ e. struck-sweep b fp t u (a .ms) reg s)
 
   pub judge-not-new : Asked u a reg → judge u reg a .says ≡ New → ⊥
   unfolding judge
   judge-not-new s =
-      split-if (λ (j : Judged). j .says ≡ New → ⊥) (unjudged reg a) (λ e p. no (cc))
+      split-if (λ (j : Judgement). j .says ≡ New → ⊥) (unjudged reg a) (λ e p. no (cc))
       (λ e. not-new u (sweep u (a .ms) reg) a (struck-sweep (bucket-of u (a .stamp)) (as-read (a .fp)) (a .stamp) u (a .ms) reg s))
 
   -- the batch form says New only where judge does

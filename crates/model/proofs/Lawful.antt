@@ -14,7 +14,7 @@ use Rattle.model.specs.Judge.{bucket-of}
 use Rattle.model.specs.Words.{State, state-form}
 use Rattle.model.specs.Codes.{went-through}
 use Rattle.model.specs.Calls.{Asks, Takes, Restores, Resumes, Plain, Kind, Opens, OnOne, Sets, Other, opens, beyond, Meaning, register-at, opened}
-use Rattle.model.specs.Refusals.{in-order, late-order}
+use Rattle.model.specs.Refusals.{in-order, own-order}
 use Rattle.model.specs.Once.{Strike, asks-about, takes, remakes}
 use Rattle.model.specs.EqualPart.{kind-stays}
 use Rattle.model.specs.RoundTrip.{reaches}
@@ -36,7 +36,7 @@ pub record Good (s : Settings) (k : Strike) (m : Meaning) (x : State) : Type 0 w
 pub record Lawful (m : Meaning) : Type 0 where
   -- its own answer is no refusal, and its own refusals come in the paper's order
   pub through : (s : Settings) (t : State) → went-through (m .does s t .answer) ≡ true
-  pub in-order : (s : Settings) (t : State) → in-order late-order (m .late s t) ≡ true
+  pub in-order : (s : Settings) (t : State) → in-order own-order (m .own s t) ≡ true
   -- an opening goes by its arguments alone
   pub afresh : (limits starts : List ℕ) → m .kind ≡ Opens limits starts → (s : Settings) (t : State) → m .does s t .state ≡ opened s limits starts
   -- it leaves a well-formed state: an opening of any, another of a well-formed one
@@ -85,7 +85,7 @@ asks-nothing Other e = record { asks = refl; takes = refl; shut = refl; opens-no
 pub record Calm (m : Meaning) : Type 0 where
   pub unasked : unasked (m .kind) ≡ true
   pub through : (s : Settings) (t : State) → went-through (m .does s t .answer) ≡ true
-  pub in-order : (s : Settings) (t : State) → in-order late-order (m .late s t) ≡ true
+  pub in-order : (s : Settings) (t : State) → in-order own-order (m .own s t) ≡ true
   pub sound : (s : Settings) (t : State) → settings-fit s ≡ true → m .fits s ≡ true → beyond s (m .kind) ≡ false → state-form s .Ok t
       → state-form s .Ok (m .does s t .state)
   pub bounded : (s : Settings) (t : State) → kind-stays (m .kind) (t .book .limits) ≡ true → Bounded (s .shares) (t .book)
@@ -111,7 +111,7 @@ calm {m} c =
 
 -- ---- a call that leaves the state: all that is left of it is what it answers, and its own refusals
 pub reader : {m : Meaning} → unasked (m .kind) ≡ true → ((s : Settings) (t : State) → m .does s t .state ≡ t)
-    → ((s : Settings) (t : State) → went-through (m .does s t .answer) ≡ true) → ((s : Settings) (t : State) → in-order late-order (m .late s t) ≡ true) → Lawful m
+    → ((s : Settings) (t : State) → went-through (m .does s t .answer) ≡ true) → ((s : Settings) (t : State) → in-order own-order (m .own s t) ≡ true) → Lawful m
 reader {m} unasked leaves through in-order = calm (record {
   unasked = unasked;
   through = through;

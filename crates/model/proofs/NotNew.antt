@@ -14,7 +14,9 @@ use Rattle.model.specs.Book.{Book}
 use Rattle.model.specs.Register.{Register}
 use Rattle.model.specs.Judge.{judge, judge-batch, take, take-batch}
 use Rattle.model.specs.Words.{State, state-form}
-use Rattle.model.specs.Calls.{Manner, judged, judged-batch, taken, taken-batch, Asking, Ticket, On, register-at, with-register, with-book, ask-of, after-judged, after-taken, asked, done-on, step, deed-fits, codes-fit, is-open, unfit, unsound, no-such-register, late-deed, late, first-met, held-in, refused}
+use Rattle.model.specs.Calls.{Manner, judged, judged-batch, taken, taken-batch, Asking, Ticket, On, register-at, with-register, with-book, ask-of, after-judged}
+use Rattle.model.specs.Calls.{after-taken, asked, done-on, step, deed-fits, codes-fit, is-open, unfit, unsound, no-such-register, deed-refusals, own-refusals}
+use Rattle.model.specs.Calls.{first-met, held-in, refused}
 use Rattle.model.specs.NotNew.{LeavesAs, NotNewLeavesWords}
 use Rattle.model.proofs.Judging.{rest-leaves}
 use Rattle.model.proofs.Simulates.{refused-words, reply-is, after-is}
@@ -39,7 +41,7 @@ module _ (s : Settings) (r : ℕ) (a : Asking) (x : State) where
 
 -- ---- what is refused does not go by the manner
 same-refusal : (st ws : List ℕ) (r : ℕ) (a : Asking) (m n : Manner) → refused st ws (On r (Ticket m a)) ≡ refused st ws (On r (Ticket n a))
-unfolding refused first-met unfit codes-fit deed-fits unsound is-open no-such-register late late-deed
+unfolding refused first-met unfit codes-fit deed-fits unsound is-open no-such-register own-refusals deed-refusals
 same-refusal st ws r a m n = refl
 
 -- ---- so on words

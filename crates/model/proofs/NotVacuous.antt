@@ -33,9 +33,14 @@ use Rattle.model.specs.TwiceLimit.{class-units, class-limit}
 use Rattle.model.proofs.SoundnessKept.{opened-sound}
 use Rattle.model.proofs.Once.{leaves-alone}
 
+-- the tests of soundness, and how forms are put together
+unfoldable pub compute-sound : ℕ
+unfolding zeros sameWords pad flat wideRow encRow readRow testRow encUp readUp testUp reached-from generation-sound read-pairs pairs-sound place-sound used-place
+compute-sound = 0
+
 -- everything that a call on words computes
 unfoldable pub compute-all : ℕ
-unfolding zeros sameWords pad flat wideRow encRow readRow testRow encUp readUp testUp reached-from generation-sound read-pairs pairs-sound place-sound used-place has-place distinct heading-sound front-sound went-through compute-numbers compute-settings compute-class compute-generation compute-book compute-register compute-judge compute-dump compute-codes compute-calls compute-once
+unfolding compute-sound has-place distinct heading-sound front-sound went-through compute-numbers compute-settings compute-class compute-generation compute-book compute-register compute-judge compute-dump compute-codes compute-calls compute-once
 compute-all = 0
 
 -- ---- one register: no window, buckets of 2 ms, two positions, four slots; two places of two pairs for each class

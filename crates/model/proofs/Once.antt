@@ -16,11 +16,14 @@ use Rattle.model.specs.Settings.{settings-of, usable-at, words-needed}
 use Rattle.model.specs.Register.{Register}
 use Rattle.model.specs.Judge.{bucket-of}
 use Rattle.model.specs.Words.{State, state-form}
-use Rattle.model.specs.Calls.{Call, Sort, Asks, Takes, Restores, Resumes, Plain, Kind, Opens, OnOne, Sets, Other, opens, kind, is-open, no-such-register, settings-words-fit, sound, register-at, step, held-in, refused, reply, after}
+use Rattle.model.specs.Calls.{Call, Sort, Asks, Takes, Restores, Resumes, Plain, Kind, Opens, OnOne, Sets, Other, opens, kind, is-open, no-such-register}
+use Rattle.model.specs.Calls.{settings-words-fit, sound, register-at, step, held-in, refused, reply, after}
 use Rattle.model.specs.View.{Given, answered, left-by, words-after}
 use Rattle.model.specs.Codes.{went-through}
 use Rattle.model.specs.Soundness.{Vetted}
-use Rattle.model.specs.Once.{Strike, sort-asks, asks-about, sort-takes, takes, remakes, remade-by, remade-among, NoTicketTwice, Moment, Answered, Accepted, CalledNew, remade, unless, Never, Once, moments, Event, Calls, Replaces, Aside, LeavesAlone, left-by-event, event-moments, all-moments, AllAside, NoTicketTwiceAmong}
+use Rattle.model.specs.Once.{Strike, sort-asks, asks-about, sort-takes, takes, remakes, remade-by, remade-among, NoTicketTwice, Moment, Answered, Accepted}
+use Rattle.model.specs.Once.{CalledNew, remade, unless, Never, Once, moments, Event, Calls, Replaces, Aside, LeavesAlone, left-by-event, event-moments, all-moments}
+use Rattle.model.specs.Once.{AllAside, NoTicketTwiceAmong}
 use Rattle.model.proofs.Choice.{or-false, true-false}
 use Rattle.model.proofs.Struck.{Struck}
 use Rattle.model.proofs.Simulates.{refused-words, entered, fit-settings, vetted-ok, one-settings, reply-is, after-vetted, after-holds}

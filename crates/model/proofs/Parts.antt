@@ -18,7 +18,8 @@ use Rattle.model.specs.Book.{Held}
 use Rattle.model.specs.Register.{Register}
 use Rattle.model.specs.BookWords.{class-form}
 use Rattle.model.specs.RegisterWords.{each-of, of-each, each-form, heading-form, ring-form, register-of, of-register, register-form}
-use Rattle.model.specs.Words.{State, Front, front-form, book-form, registers-form, unused-width, state-of, of-state, state-form, class-width, class-start, ring-width, ring-start, after-registers, register-start}
+use Rattle.model.specs.Words.{State, Front, front-form, book-form, registers-form, unused-width, state-of, of-state, state-form, class-width, class-start}
+use Rattle.model.specs.Words.{ring-width, ring-start, after-registers, register-start}
 use Rattle.model.specs.Calls.{no-register, register-at, with-register}
 use Rattle.model.proofs.RegisterWords.{each-exact, heading-exact}
 use Rattle.model.proofs.BookWords.{class-exact}

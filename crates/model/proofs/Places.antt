@@ -19,7 +19,9 @@ use Rattle.runs.proofs.Cases.{by-test, each-true, both-true, no}
 use Rattle.model.specs.Numbers.{top32, cap32}
 use Rattle.model.specs.Settings.{limits-fit}
 use Rattle.model.specs.Class.{class-of, kind-of, same-deliverer}
-use Rattle.model.specs.Book.{Pair, Place, Held, total, entries, entries-in, units, entries-of, pairs-of, together, below-share, fair, holders-with, own-after, units-after, listed, place-free, pair-free, draw-room, draw-limits, draw-test, with-pairs, add-pair, new-place, enter, lower-pair, keep-place, give-back, later-pairs, later-places, expire-class}
+use Rattle.model.specs.Book.{Pair, Place, Held, total, entries, entries-in, units, entries-of, pairs-of, together, below-share, fair, holders-with, own-after}
+use Rattle.model.specs.Book.{units-after, listed, place-free, pair-free, draw-room, draw-limits, draw-test, with-pairs, add-pair, new-place, enter, lower-pair}
+use Rattle.model.specs.Book.{keep-place, give-back, later-pairs, later-places, expire-class}
 use Rattle.model.specs.BookWords.{most-entries, pairs-sound, number-word, read-mark, PlaceOk, has-place, distinct, class-form}
 use Rattle.model.proofs.BookWords.{same-class-is, same-class-self}
 use Rattle.model.proofs.Pairs.{total-some, total-add, length-new, length-listed, add-some, add-sound, length-lower, total-lower-le, lower-sound, length-later, total-later, later-sound}

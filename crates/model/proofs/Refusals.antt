@@ -14,7 +14,7 @@ use Rattle.runs.proofs.Cases.{by-test, both-true, no}
 use Rattle.model.specs.Settings.{settings-of}
 use Rattle.model.specs.Words.{State}
 use Rattle.model.specs.Codes.{went-through}
-use Rattle.model.specs.Calls.{Call, step, late, held-in, Refusal, first-met, refusals, refused, reply, after, output-of, output-after}
+use Rattle.model.specs.Calls.{Call, step, own-refusals, held-in, Refusal, first-met, refusals, refused, reply, after, output-of, output-after}
 use Rattle.model.specs.Refusals.{in-order, order, First, here, later, NoneMet, nothing, not-this, Refuses}
 use Rattle.model.proofs.Choice.{true-false}
 use Rattle.model.proofs.EveryCall.{lawful}
@@ -77,7 +77,7 @@ unfolding no-zero
 positive = refl
 
 ordered : (st ws : List ℕ) (call : Call) → in-order order (refusals st ws call) ≡ true
-unfolding in-order late
+unfolding in-order own-refusals
 ordered st ws call = lawful call .in-order (settings-of st) (held-in (settings-of st) ws)
 
 -- ---- the reply

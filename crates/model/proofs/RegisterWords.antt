@@ -17,7 +17,9 @@ use Rattle.runs.proofs.Cases.{by-test, both-true, each-true}
 use Rattle.runs.proofs.Firsts.{firsts, firsts-are}
 use Rattle.runs.proofs.Exact.{both-exact, seen-exact}
 use Rattle.model.specs.Register.{published, spare-words}
-use Rattle.model.specs.RegisterWords.{each-of, of-each, each-form, flag-word, floor-flag, floor-word, read-floor, floor-sound, Heading, heading-width, encode-heading, read-heading, kept-usable, published-sound, heading-sound, heading-form, ring-form, register-of, of-register, register-form}
+use Rattle.model.specs.RegisterWords.{each-of, of-each, each-form, flag-word, floor-flag, floor-word, read-floor, floor-sound, Heading, heading-width}
+use Rattle.model.specs.RegisterWords.{encode-heading, read-heading, kept-usable, published-sound, heading-sound, heading-form, ring-form, register-of, of-register}
+use Rattle.model.specs.RegisterWords.{register-form}
 
 -- ---- one for each class
 pub each-exact : {A : Type 0} (F : Class → Form A) → ((c : Class) → Exact (F c)) → Exact (each-form F)

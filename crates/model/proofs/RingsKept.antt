@@ -22,7 +22,8 @@ use Rattle.model.specs.Settings.{ring-of}
 use Rattle.model.specs.Class.{pick, swap}
 use Rattle.model.specs.Generation.{Generation, empty, held, among, slots-for, insert, dropped}
 use Rattle.model.specs.GenerationWords.{GenerationOk}
-use Rattle.model.specs.Register.{Ring, Register, spare-words, generation-at, with-generation, with-floor, strike, passed, Swept, visit, visits, sweep-ring, sweep-rings, through-of, sweep, started-with, started, begin}
+use Rattle.model.specs.Register.{Ring, Register, spare-words, generation-at, with-generation, with-floor, strike, passed, Swept, visit, visits, sweep-ring}
+use Rattle.model.specs.Register.{sweep-rings, through-of, sweep, started-with, started, begin}
 use Rattle.model.specs.RegisterWords.{register-form}
 use Rattle.model.specs.Judge.{collides, make-room}
 use Rattle.model.specs.Dump.{Dumped, drop-bucket, failed}

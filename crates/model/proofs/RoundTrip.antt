@@ -20,7 +20,9 @@ use Rattle.model.specs.Register.{Register, started}
 use Rattle.model.specs.Dump.{dump-words, dump-bytes, Dump, read-dump, Restoring, restore}
 use Rattle.model.specs.RegisterWords.{register-form}
 use Rattle.model.specs.Words.{State, front-form, book-form, registers-form, state-form, of-state}
-use Rattle.model.specs.Calls.{On, DumpTo, Restore, Step, no-register, register-at, after-restored, restored, done-on, step, codes-fit, deed-fits, settings-words-fit, unfit, too-short, is-open, sound, unsound, no-such-register, is-cut, late-deed, late, first-met, held-in, refused, reply, output-of, dumped-by, output-after}
+use Rattle.model.specs.Calls.{On, DumpTo, Restore, Step, no-register, register-at, after-restored, restored, done-on, step, codes-fit, deed-fits, settings-words-fit}
+use Rattle.model.specs.Calls.{unfit, too-short, is-open, sound, unsound, no-such-register, is-cut, deed-refusals, own-refusals, first-met, held-in, refused, reply}
+use Rattle.model.specs.Calls.{output-of, dumped-by, output-after}
 use Rattle.model.specs.View.{kept-settings, view}
 use Rattle.model.specs.Codes.{went-through}
 use Rattle.model.specs.Soundness.{Vetted}
@@ -111,7 +113,7 @@ steps s t q u from bytes same untouched low read back =
 -- ---- the target, on words: nothing refuses
 passes : (st vs : List ℕ) (q : ℕ) (bytes : List ℕ) (d : Dump) → Vetted st vs → q < settings-of st .registers → read-dump bytes ≡ some d
     → refused st vs (On q (Restore bytes)) ≡ 0
-unfolding refused first-met unfit codes-fit deed-fits too-short unsound is-open no-such-register late late-deed is-cut
+unfolding refused first-met unfit codes-fit deed-fits too-short unsound is-open no-such-register own-refusals deed-refusals is-cut
 passes st vs q bytes d v low read =
     rw (
       v .fit,

@@ -17,7 +17,9 @@ use Rattle.model.specs.declared.Limits.{Limits}
 use Rattle.runs.proofs.Cases.{by-test, split-if, no}
 use Rattle.model.specs.Numbers.{cap32}
 use Rattle.model.specs.Class.{class-of, same-deliverer}
-use Rattle.model.specs.Book.{Pair, Place, Held, total, entries, place-units, units, entries-of, together, below-share, fair, holders-with, own-after, units-after, place-free, pair-free, draw-room, draw-limits, draw-test, granted, with-pairs, enter, lower-pair, keep-place, give-back, later-pairs, later-places, expire-class}
+use Rattle.model.specs.Book.{Pair, Place, Held, total, entries, place-units, units, entries-of, together, below-share, fair, holders-with, own-after, units-after}
+use Rattle.model.specs.Book.{place-free, pair-free, draw-room, draw-limits, draw-test, granted, with-pairs, enter, lower-pair, keep-place, give-back, later-pairs}
+use Rattle.model.specs.Book.{later-places, expire-class}
 use Rattle.model.specs.EqualPart.{cost}
 use Rattle.model.proofs.Pairs.{total-add, total-lower-le, total-later}
 use Rattle.model.proofs.Units.{sum, Shared, Shrunk, none-left, lost, kept, shrunk-same, shrunk-shared, Gained, came, rose, later, gained-length, part-shared, sum-shared, others, twice, part-le}

@@ -23,7 +23,8 @@ use Rattle.model.specs.Dump.{Dump}
 use Rattle.model.specs.BookWords.{class-form}
 use Rattle.model.specs.RegisterWords.{register-form}
 use Rattle.model.specs.Words.{State, front-spare, unused-width, state-form}
-use Rattle.model.specs.Calls.{Manner, judged, judged-batch, taken, taken-batch, Step, no-register, register-at, with-register, with-book, start-all, opened, after-judged, after-taken, asked, after-restored, restored, resumed, starts-fit, limits-words-fit, codes-fit}
+use Rattle.model.specs.Calls.{Manner, judged, judged-batch, taken, taken-batch, Step, no-register, register-at, with-register, with-book, start-all, opened}
+use Rattle.model.specs.Calls.{after-judged, after-taken, asked, after-restored, restored, resumed, starts-fit, limits-words-fit, codes-fit}
 use Rattle.model.specs.Soundness.{OpenedSound}
 use Rattle.model.proofs.Bounds.{slots-small, fit-shares, fit-usable}
 use Rattle.model.proofs.RingsKept.{RegisterOk, from-form, to-form, started-ok}

@@ -21,7 +21,8 @@ use Rattle.model.specs.Book.{Place, second-of, Held, Book, entries-of, u
 use Rattle.model.specs.Register.{Register}
 use Rattle.model.specs.Judge.{Ask, bucket-of, judge, judge-batch, Taken, take-room, take-judged, take, take-batch}
 use Rattle.model.specs.Words.{State, state-form}
-use Rattle.model.specs.Calls.{Manner, judged, judged-batch, taken, taken-batch, Asking, Ticket, On, register-at, ask-of, after-judged, after-taken, asked, done-on, step, is-open, held-in, refused}
+use Rattle.model.specs.Calls.{Manner, judged, judged-batch, taken, taken-batch, Asking, Ticket, On, register-at, ask-of, after-judged, after-taken, asked, done-on}
+use Rattle.model.specs.Calls.{step, is-open, held-in, refused}
 use Rattle.model.specs.TwiceLimit.{class-units, class-limit, Bounded, who-asks, NeverAboveTwice}
 use Rattle.model.proofs.Choice.{swap-same}
 use Rattle.model.proofs.Places.{grants, units-enter}

@@ -20,7 +20,8 @@ use Rattle.model.specs.Settings.{limits-of, limits-fit, usable-at, setti
 use Rattle.model.specs.GenerationWords.{generation-place}
 use Rattle.model.specs.BookWords.{class-form}
 use Rattle.model.specs.RegisterWords.{heading-width, ring-form, register-form}
-use Rattle.model.specs.Words.{Front, front-width, front-spare, encode-front, read-front, kept-shares, front-sound, FrontOk, front-form, book-form, registers-form, unused-width, state-of, of-state, state-form}
+use Rattle.model.specs.Words.{Front, front-width, front-spare, encode-front, read-front, kept-shares, front-sound, FrontOk, front-form, book-form, registers-form}
+use Rattle.model.specs.Words.{unused-width, state-of, of-state, state-form}
 use Rattle.model.proofs.GenerationWords.{generation-exact}
 use Rattle.model.proofs.BookWords.{class-exact}
 use Rattle.model.proofs.RegisterWords.{each-exact, flag-back, flag-test, flag-read, same, register-exact}

@@ -14,12 +14,12 @@ use Rattle.model.specs.Codes.{flag-fits, flag-of, start-fits, start-of}
 use Rattle.model.specs.Generation.{as-read}
 use Rattle.model.specs.Book.{Held, Book, entries-of, entries-in, units, places-of, expire, opened-book, closed-book, with-limits}
 use Rattle.model.specs.Register.{Register, any-class, holds-any, sweep, published, started, begin}
-use Rattle.model.specs.Judge.{Ask, Judged, judge, judge-batch, Taken, take-batch}
+use Rattle.model.specs.Judge.{Ask, Judgement, judge, judge-batch, Taken, take-batch}
 use Rattle.model.specs.Judge.{take as take-ticket}
 use Rattle.model.specs.Dump.{dump-bytes, Dump, read-dump, Restoring, restore, resume}
 use Rattle.model.specs.Words.{State, front-spare, unused-width, state-form}
 
--- ---- calls, with every number as it is handed in
+-- ---- calls, with every number as the host passes it
 -- how a ticket is asked about
 pub data Manner : Type 0 where
   judged judged-batch taken taken-batch : Manner
@@ -89,7 +89,7 @@ opened s limits starts = record {
 abbrev pub ask-of : Asking → Ask
 ask-of a = record { fp = a .fp; stamp = a .stamp; ms = a .ms; judging = flag-of (a .flag); who = deliverer-of (a .kind) (a .number) }
 
-unfoldable pub after-judged : ℕ → State → Judged → Step
+unfoldable pub after-judged : ℕ → State → Judgement → Step
 after-judged r t j = record { answer = Said (j .says); state = with-register r (j .register) t }
 
 unfoldable pub after-taken : ℕ → State → Taken → Step
@@ -164,19 +164,19 @@ abbrev pub refusal : ℕ → Bool → Refusal
 refusal n b = record { number = n; met = b }
 
 -- 6: "dump while pending", 5: "dump output too short"
-abbrev pub late-dump : List ℕ → Register → List Refusal
-late-dump out reg = refusal 6 (reg .pending) ∷ refusal 5 (ltb (length out) (length (dump-bytes reg))) ∷ []
+abbrev pub dump-refusals : List ℕ → Register → List Refusal
+dump-refusals out reg = refusal 6 (reg .pending) ∷ refusal 5 (ltb (length out) (length (dump-bytes reg))) ∷ []
 
 -- 7: "dump cut short"
 unfoldable pub is-cut : Option Dump → Bool
 is-cut none = true
 is-cut (some d) = false
 
-abbrev pub late-restore : List ℕ → List Refusal
-late-restore bytes = refusal 7 (is-cut (read-dump bytes)) ∷ []
+abbrev pub restore-refusals : List ℕ → List Refusal
+restore-refusals bytes = refusal 7 (is-cut (read-dump bytes)) ∷ []
 
-abbrev pub never-late : List Refusal
-never-late = []
+abbrev pub no-refusals : List Refusal
+no-refusals = []
 
 -- ---- calls, sorted for what is promised of lists of them
 -- a deed
@@ -220,7 +220,7 @@ pub record Act : Type 0 where
   -- its codes are listed
   pub fits : Bool
   -- its own refusals after 4, in the order in which they are tried
-  pub late : Register → List Refusal
+  pub own : Register → List Refusal
   -- what it does to a state that nothing refuses
   pub does : Settings → ℕ → State → Step
   -- the output that it is lent, and the bytes that it writes there
@@ -230,9 +230,9 @@ pub record Act : Type 0 where
 
 -- one that reads: it answers, and writes to its output alone
 abbrev pub shows : Bool → (Register → List Refusal) → List ℕ → (Register → List ℕ) → (Settings → ℕ → State → Answer) → Act
-shows fits late output writes says = record {
+shows fits own output writes says = record {
   fits = fits;
-  late = late;
+  own = own;
   does = λ s r t. record { answer = says s r t; state = t };
   output = output;
   writes = writes;
@@ -240,25 +240,25 @@ shows fits late output writes says = record {
 }
 
 abbrev pub looks : (Settings → ℕ → State → Answer) → Act
-looks says = shows true (λ reg. never-late) [] (λ reg. []) says
+looks says = shows true (λ reg. no-refusals) [] (λ reg. []) says
 
 -- one that alters the state
 abbrev pub alters : Bool → List Refusal → Sort → (Settings → ℕ → State → Step) → Act
-alters fits late sort does = record { fits = fits; late = λ reg. late; does = does; output = []; writes = λ reg. []; sort = sort }
+alters fits own sort does = record { fits = fits; own = λ reg. own; does = does; output = []; writes = λ reg. []; sort = sort }
 
 unfoldable pub act : Deed → Act
 act (Ticket m a) =
-    alters (flag-fits (a .flag) && deliverer-fits (a .kind) (a .number)) never-late (manner-sort m a) (λ s r t. asked s r m (ask-of a) t)
+    alters (flag-fits (a .flag) && deliverer-fits (a .kind) (a .number)) no-refusals (manner-sort m a) (λ s r t. asked s r m (ask-of a) t)
 act (ContainsHash fp) = looks (λ s r t. yes-no (any-class (holds-any (as-read fp)) (register-at r t .rings)))
 act (Begin number) =
-    alters true never-late Plain
+    alters true no-refusals Plain
     (λ s r t. record { answer = cond (register-at r t .pending) Begun Already; state = with-register r (begin number (register-at r t)) t })
 act (Sweep ms) =
-    alters true never-late Plain (λ s r t. record { answer = Done; state = with-register r (sweep (usable-at s r) ms (register-at r t)) t })
-act (DumpTo out) = shows true (late-dump out) out dump-bytes (λ s r t. Dumped (length (dump-bytes (register-at r t))))
-act (Restore bytes) = alters true (late-restore bytes) Restores (λ s r t. restored s r t (read-dump bytes))
+    alters true no-refusals Plain (λ s r t. record { answer = Done; state = with-register r (sweep (usable-at s r) ms (register-at r t)) t })
+act (DumpTo out) = shows true (dump-refusals out) out dump-bytes (λ s r t. Dumped (length (dump-bytes (register-at r t))))
+act (Restore bytes) = alters true (restore-refusals bytes) Restores (λ s r t. restored s r t (read-dump bytes))
 act (Resume bytes flag floor) =
-    alters (flag-fits flag) (late-restore bytes) Resumes (λ s r t. resumed s r t (proven-of flag floor) (read-dump bytes))
+    alters (flag-fits flag) (restore-refusals bytes) Resumes (λ s r t. resumed s r t (proven-of flag floor) (read-dump bytes))
 act Floor = looks (λ s r t. floor-answer (register-at r t .floor))
 act Pending = looks (λ s r t. yes-no (register-at r t .pending))
 act SweptBucket = looks (λ s r t. SweptTo (register-at r t .swept) (published (usable-at s r) (register-at r t .swept)))
@@ -267,9 +267,9 @@ unfoldable pub deed-fits : Deed → Bool
 unfolding act
 deed-fits d = act d .fits
 
-unfoldable pub late-deed : Register → Deed → List Refusal
+unfoldable pub deed-refusals : Register → Deed → List Refusal
 unfolding act
-late-deed reg d = act d .late reg
+deed-refusals reg d = act d .own reg
 
 unfoldable pub done-on : Settings → ℕ → Deed → State → Step
 unfolding act
@@ -278,7 +278,7 @@ done-on s r d t = act d .does s r t
 -- ---- and every call
 pub record Meaning : Type 0 where
   pub fits : Settings → Bool
-  pub late : Settings → State → List Refusal
+  pub own : Settings → State → List Refusal
   pub does : Settings → State → Step
   pub output : List ℕ
   pub writes : State → List ℕ
@@ -286,9 +286,9 @@ pub record Meaning : Type 0 where
 
 -- one that reads
 abbrev pub shows-all : (Settings → Bool) → (Settings → State → List Refusal) → List ℕ → (State → List ℕ) → (Settings → State → Answer) → Meaning
-shows-all fits late output writes says = record {
+shows-all fits own output writes says = record {
   fits = fits;
-  late = late;
+  own = own;
   does = λ s t. record { answer = says s t; state = t };
   output = output;
   writes = writes;
@@ -296,13 +296,13 @@ shows-all fits late output writes says = record {
 }
 
 abbrev pub tells : Bool → (Settings → State → Answer) → Meaning
-tells fits says = shows-all (λ s. fits) (λ s t. never-late) [] (λ t. []) says
+tells fits says = shows-all (λ s. fits) (λ s t. no-refusals) [] (λ t. []) says
 
 -- one that is done
 abbrev pub makes : (Settings → Bool) → Kind → (Settings → State → State) → Meaning
 makes fits kind leaves = record {
   fits = fits;
-  late = λ s t. never-late;
+  own = λ s t. no-refusals;
   does = λ s t. record { answer = Done; state = leaves s t };
   output = [];
   writes = λ t. [];
@@ -314,7 +314,7 @@ meaning (Open limits starts) =
     makes (λ s. limits-words-fit limits && starts-fit s starts) (Opens limits starts) (λ s t. opened s limits starts)
 meaning (On r d) = record {
   fits = λ s. deed-fits d;
-  late = λ s t. late-deed (register-at r t) d;
+  own = λ s t. deed-refusals (register-at r t) d;
   does = λ s t. done-on s r d t;
   output = act d .output;
   writes = λ t. act d .writes (register-at r t);
@@ -332,9 +332,9 @@ unfoldable pub codes-fit : Settings → Call → Bool
 unfolding meaning
 codes-fit s call = meaning call .fits s
 
-unfoldable pub late : Settings → Call → State → List Refusal
+unfoldable pub own-refusals : Settings → Call → State → List Refusal
 unfolding meaning
-late s call t = meaning call .late s t
+own-refusals s call t = meaning call .own s t
 
 unfoldable pub step : Settings → Call → State → Step
 unfolding meaning
@@ -386,7 +386,7 @@ first-met (x ∷ xs) = cond (x .met) (x .number) (first-met xs)
 
 -- what a state has to say: 4, and the call's own
 abbrev pub refusals-of : Settings → Call → State → List Refusal
-refusals-of s call t = refusal 4 (no-such-register s call) ∷ late s call t
+refusals-of s call t = refusal 4 (no-such-register s call) ∷ own-refusals s call t
 
 -- what words hold under settings
 unfoldable pub held-in : Settings → List ℕ → State
@@ -423,5 +423,5 @@ output-after st ws call =
 
 -- the rules of this file, for a theorem that computes
 unfoldable pub compute-calls : ℕ
-unfolding start-all opened after-judged after-taken asked after-restored restored resumed least-published class-totals start-fits-at starts-fit limits-words-fit is-cut manner-sort opens beyond act deed-fits late-deed done-on meaning codes-fit late step output-of dumped-by kind is-open no-such-register settings-words-fit unfit too-short sound unsound first-met held-in refused reply after output-after
+unfolding start-all opened after-judged after-taken asked after-restored restored resumed least-published class-totals start-fits-at starts-fit limits-words-fit is-cut manner-sort opens beyond act deed-fits deed-refusals done-on meaning codes-fit own-refusals step output-of dumped-by kind is-open no-such-register settings-words-fit unfit too-short sound unsound first-met held-in refused reply after output-after
 compute-calls = 0

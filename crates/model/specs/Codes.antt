@@ -12,7 +12,7 @@ use Rattle.model.specs.declared.Draw.the-variants.{Granted, Closed, OwnS
 use Rattle.model.specs.declared.Answer.{Answer}
 use Rattle.model.specs.declared.Answer.the-variants.{Refused, Done, Said, Yes, No, Begun, Already, Dumped, Whole, Partly, NoFloor, FloorAt, SweptTo, Entries, Totals}
 
--- ---- codes that are handed in
+-- ---- codes that a call brings
 -- a flag: 0 or 1
 abbrev pub flag-fits : ℕ → Bool
 flag-fits n = leb n 1

@@ -114,7 +114,7 @@ pub record Due (u : Usable) (b : Shares) (reg : Register) (k : Book) (a : Ask) :
 unfoldable pub answer-due : Usable → Register → Ask → Answer
 answer-due u reg a = Said (cond (taken-by-another u reg a) Late New)
 
--- on words, with the settings, the register number and the ticket that are handed in
+-- on words, with the settings, the register number and the ticket that the call brings
 pub record Gets (x : Since) (ws st : List ℕ) (r : ℕ) (a : Asking) : Type 0 where
   pub from-take : reply st ws (On r (Ticket taken a)) ≡ answer-due (usable-at (x .settings) r) (register-at r (x .state)) (ask-of a)
   pub from-take-batch : reply st ws (On r (Ticket taken-batch a)) ≡ answer-due (usable-at (x .settings) r) (register-at r (x .state)) (ask-of a)

@@ -9,7 +9,7 @@ use lib.Dec.{eqb, leb}
 use Rattle.model.specs.declared.Probe.{Probe}
 use Rattle.model.specs.declared.Probe.the-variants.{Held, Free, Nowhere}
 use Rattle.runs.specs.Words.{zeros, pad}
-use Rattle.runs.specs.Combine.{Place}
+use Rattle.runs.specs.Combine.{FormAt}
 use Rattle.model.specs.Widths.{generation-head, generation-width}
 use Rattle.model.specs.Settings.{power-of-two}
 use Rattle.model.specs.Generation.{Generation, count, probe}
@@ -75,7 +75,7 @@ pub record GenerationOk (S n i : ℕ) (g : Generation) : Type 0 where
   pub shape : cond (eqb (length (g .slots)) 0) (eqb (g .newest) 0)
       (filled-sound n i (length (g .slots)) (count (g .slots)) (g .bucket) && reached-from (g .slots) 0 (g .slots)) ≡ true
 
-abbrev pub generation-place : ℕ → ℕ → Place Generation
+abbrev pub generation-place : ℕ → ℕ → FormAt Generation
 generation-place S n = record {
   wide = generation-width S;
   enc = encode-generation S;

@@ -59,12 +59,12 @@ verdict u reg a =
     else New
 
 -- a verdict and the register after it
-pub record Judged : Type 0 where
+pub record Judgement : Type 0 where
   pub says : Verdict
   pub register : Register
 
 -- "Judge sweeps, then .."
-unfoldable pub judge : Usable → Register → Ask → Judged
+unfoldable pub judge : Usable → Register → Ask → Judgement
 judge u reg a =
     let after = sweep u (a .ms) reg in
     if unjudged reg a then record { says = Unjudged; register = reg } else record { says = verdict u after a; register = after }
@@ -78,7 +78,7 @@ ahead-for past Ahead = Ahead
 ahead-for past Full = Full
 ahead-for past Unjudged = Unjudged
 
-unfoldable pub judge-batch : Usable → Register → Ask → Judged
+unfoldable pub judge-batch : Usable → Register → Ask → Judgement
 judge-batch u reg a =
     let j = judge u reg a in
     record { says = ahead-for (front-past (window-for u (a .who)) (a .stamp) (a .ms)) (j .says); register = j .register }

@@ -15,11 +15,11 @@ in-order [] (x ∷ xs) = false
 in-order (n ∷ ns) (x ∷ xs) = cond (eqb (x .number) n) (in-order ns xs) (in-order ns (x ∷ xs))
 
 -- of a call's own refusals, and of all
-abbrev pub late-order : List ℕ
-late-order = 6 ∷ 5 ∷ 7 ∷ []
+abbrev pub own-order : List ℕ
+own-order = 6 ∷ 5 ∷ 7 ∷ []
 
 abbrev pub order : List ℕ
-order = 1 ∷ 2 ∷ 3 ∷ 4 ∷ late-order
+order = 1 ∷ 2 ∷ 3 ∷ 4 ∷ own-order
 
 -- n is the number of one whose condition is met, and no earlier one's is
 pub data First (n : ℕ) : List Refusal → Type 0 where

@@ -1,4 +1,4 @@
--- "Settings and soundness", first half: the settings as they are handed in, their bounds, and the words that they need.
+-- "Settings and soundness", first half: the settings as a call brings them, their bounds, and the words that they need.
 use Prim.Native.Nat.{ℕ, zero, suc, _+_, _*_, max}
 use mathlib.Core.Bool.{Bool, cond, _&&_, _||_}
 use mathlib.Core.List.{List, [], _∷_}

@@ -17,7 +17,7 @@ use Rattle.model.specs.Words.{front-width, class-width, class-start, ring-width
 use Rattle.model.specs.Most.{generation-most, ring-most, rings-most, register-most, place-most, places-most, class-most, words-most}
 use Rattle.model.proofs.Bounds.{fit-shares, fit-usable}
 use Rattle.model.proofs.Words.{registers≤4}
-use Rattle.numbers.specs.Places.{RegisterAt}
+use Rattle.numbers.specs.RegisterAt.{RegisterAt}
 use Rattle.numbers.proofs.Needed.{usable-few, shares-few}
 
 -- ---- a class in the book

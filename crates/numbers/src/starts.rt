@@ -14,10 +14,10 @@ ghost use Rattle.model.specs.Widths.{class-head, place-width as place-words};
 ghost use Rattle.model.specs.Settings.{settings-fit, shares-fit, usable-fit, usable-at, words-needed};
 ghost use Rattle.model.specs.Words.{class-width as class-words, class-start as class-from, ring-width as ring-words, register-width as register-words, register-start as register-from};
 ghost use Rattle.model.specs.Most.{ring-most, register-most, place-most, class-most};
-ghost use Rattle.numbers.specs.Places.{RegisterAt};
+ghost use Rattle.numbers.specs.RegisterAt.{RegisterAt};
 
 // A register's settings, and where its words lie.
-pub struct Place {
+pub struct RegisterExtent {
     pub u: Usable,
     pub start: usize,
     pub end: usize,
@@ -103,14 +103,14 @@ pub fn register_start(s: Settings, register: usize) -> usize
 }
 
 // Where a register lies.
-pub fn place_of(s: Settings, r: usize) -> Place
+pub fn register_extent(s: Settings, r: usize) -> RegisterExtent
     requires { ⌜ (settings-fit s ≡ true) × (r < s .registers) ⌝ }
     ensures { λ p. ⌜ RegisterAt s r p ⌝ }
 {
     let u = bounds::usable_in(s, r);
     let start = register_start(s, r);
     let width = register_width(u);
-    Place {
+    RegisterExtent {
         u: u,
         start: start,
         end: start + width,

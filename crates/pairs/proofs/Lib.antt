@@ -1,4 +1,3 @@
-pub mod Shifts
 pub mod PairWords
 pub mod PairLists
 pub mod Counting

@@ -18,22 +18,7 @@ use Rattle.model.specs.BookWords.{pair-words, read-pairs}
 use Rattle.model.proofs.BookWords.{length-read, length-pairs}
 use Rattle.pairs.specs.declared.Passed.{Passed}
 use Rattle.pairs.specs.Pairs.{Cells, cells-words, before, passed-in, second-at, count-at, raise-at, lower-at, insert-at, remove-at, raised, lowered, inserted, removed, Holds, Takes, Loses}
-use Rattle.pairs.proofs.Shifts.{mid-of, put-of}
-
--- ---- the end of close_up
-pub close-end : (old m ys : List ℕ) (d a : ℕ) → d ≤ length old → m ≡ drop d old ++ drop (length old - d) old → a ≡ length m - d
-    → ys ≡ replicate (length (midOf a (length m - a) m)) 0 → putMid a (length m - a) m ys ≡ drop d old ++ replicate d 0
-close-end old m ys d a h is ha e =
-    let u = drop d old in
-    let v = drop (length old - d) old in
-    let lu : length u ≡ length old - d = length-drop d old in
-    let lv : length v ≡ d = length-drop (length old - d) old ∙ omega arith in
-    let lm : length m ≡ length old = ap length is ∙ length-append u v ∙ omega arith in
-    let k : length m - a ≡ d = omega arith in
-    let z : m ≡ u ++ (v ++ []) = is ∙ rw append-nil in
-    let s = mid-of u v [] a d (omega arith) lv in
-    let y : ys ≡ replicate d 0 = e ∙ rw (k, z, s, lv) in
-    rw (k, z, y) (put-of u v [] (replicate d 0) a d (omega arith) lv ∙ rw append-nil)
+use Rattle.runs.proofs.Shifts.{mid-of, put-of}
 
 -- ---- pairs as they are read
 pub none : Pair
@@ -204,7 +189,8 @@ module _ (n k a e b s : ℕ) (ws ys : List ℕ) (ha : a ≡ 2 * k) (he : e ≡ 2
           let p : putMid a (e - a) ws ys ≡ u ++ (take 2 m ++ (v ++ drop 2 (x .past))) =
           ap₂ (putMid a (e - a)) w y ∙ put-of u m (drop 2 (x .past)) (take 2 m ++ v) a (e - a) lu lm
           ∙ ap (λ (z : List ℕ). u ++ z) (append-assoc (take 2 m) v (drop 2 (x .past))) in
-          let q : flat pair-words (insert-at k s (x .pairs)) ≡ u ++ (s ∷ 1 ∷ v) = flat-append pair-words (take k (x .pairs)) (record { second = s; count = 1 } ∷ drop k (x .pairs)) ∙ new-first s (drop k (x .pairs)) u in
+          let q : flat pair-words (insert-at k s (x .pairs)) ≡ u ++ (s ∷ 1 ∷ v) = flat-append pair-words (take k (x .pairs))
+          (record { second = s; count = 1 } ∷ drop k (x .pairs)) ∙ new-first s (drop k (x .pairs)) u in
           let t : flat pair-words (insert-at k s (x .pairs)) ++ drop 2 (x .past) ≡ u ++ (s ∷ 1 ∷ (v ++ drop 2 (x .past))) = rw q (append-assoc u (s ∷ 1 ∷ v) (drop 2 (x .past))) in
           ap (λ (z : List ℕ). set (set z a s) b 1) p ∙ two-over u m (v ++ drop 2 (x .past)) a b s lu hb (omega arith) ∙ sym t
 

@@ -1,9 +1,9 @@
 // A place's pairs of second and count, seconds rising, and how they lie in the place's cells: pair k in the cells 2k (its second)
 // and 2k + 1 (its count). Other crates move and clear places as wholes, and read or write no cell by itself; what these functions
 // do is said of lists of pairs.
-pub mod moves;
 
 use numbers::capped::TOP32;
+use runs::moves;
 ghost use Prim.Native.Nat.{_+_, _*_, _≤_, _<_};
 ghost use mathlib.Core.Path.{_≡_};
 ghost use mathlib.Core.Bool.{_&&_};

@@ -7,6 +7,7 @@ use lib.Dec.{eqb}
 use lib.ListN.{set}
 use borrow.Author.Tests.{eq-eqb, ne-eqb}
 use Rattle.runs.proofs.Turns.{then}
+use Rattle.runs.specs.Turns.{silent}
 use Rattle.model.specs.declared.Class.{Class}
 use Rattle.model.specs.declared.Usable.{Usable}
 use Rattle.model.specs.Numbers.{raise}
@@ -18,7 +19,7 @@ use Rattle.model.specs.Dump.{drop-bucket, raised-to-dumped}
 use Rattle.model.proofs.RingsKept.{from-form, to-form, swapped-ok, drop-ok}
 use Rattle.generation.specs.declared.Dropped.{Dropped}
 use Rattle.ring.specs.Ring.{drop-bucket-says}
-use Rattle.register.specs.Rules.{silent, raised, in-ring, failed-at, floor-gone}
+use Rattle.register.specs.Rules.{raised, in-ring, failed-at, floor-gone}
 use Rattle.register.specs.Words.{RegisterWords, RegisterTurns}
 use Rattle.register.proofs.InRings.{still-words}
 

@@ -9,6 +9,7 @@ use lib.Dec.{leb, eqb}
 use lib.ListN.{getD, set}
 use borrow.Author.Tests.{leb-true, leb-false}
 use Rattle.runs.proofs.Cases.{no}
+use Rattle.runs.specs.Turns.{silent}
 use Rattle.model.specs.declared.Answer.the-variants.{NoFloor, FloorAt, SweptTo, Begun, Already}
 use Rattle.model.specs.declared.Usable.{Usable}
 use Rattle.model.specs.Numbers.{raise, under}
@@ -18,7 +19,7 @@ use Rattle.model.specs.Calls.{floor-answer}
 use Rattle.model.proofs.RegisterWords.{flag-read}
 use Rattle.generation.specs.declared.Dropped.{Dropped}
 use Rattle.generation.specs.declared.Dropped.the-variants.{Nothing, Newest}
-use Rattle.register.specs.Rules.{silent, raised, raised-with, begin-says, swept-answer}
+use Rattle.register.specs.Rules.{raised, raised-with, begin-says, swept-answer}
 use Rattle.register.specs.Words.{RegisterReads, RegisterTurns}
 
 -- ---- a floor and its two words

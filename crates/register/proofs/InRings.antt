@@ -24,8 +24,8 @@ use Rattle.model.proofs.Bounds.{ring-positive}
 use Rattle.numbers.proofs.Needed.{usable-few}
 use Rattle.numbers.proofs.Placing.{ring-within}
 use Rattle.ring.specs.Ring.{PositionOf, RingWords, RingReads, RingTurns}
-use Rattle.register.specs.declared.places.Place.{Place}
-use Rattle.register.specs.declared.places.Rings.{Rings}
+use Rattle.register.specs.declared.extents.RingExtent.{RingExtent}
+use Rattle.register.specs.declared.extents.Rings.{Rings}
 use Rattle.register.specs.Rules.{in-ring}
 use Rattle.register.specs.Words.{RegisterWords, RegisterReads, RegisterTurns, RingsOf, RingAt}
 
@@ -42,7 +42,7 @@ placed u c n k start l e at =
 pub position-asks : (u : Usable) (n : Rings) → RingsOf u n → usable-fit u ≡ true → (0 < n .ring) × (n .ring ≤ 256)
 position-asks u n l fit = rw (l .ring) (ring-positive u, usable-few u fit .ring)
 
-module _ (u : Usable) (c : Class) (p : Place) (l : RingAt u c p) where
+module _ (u : Usable) (c : Class) (p : RingExtent) (l : RingAt u c p) where
   pub ring-position : (n : Rings) (b i : ℕ) → RingsOf u n → PositionOf b (n .ring) i → PositionOf b (p .ring) i
   ring-position n b i sizes q = rw (l .ring ∙ sym (sizes .ring)) q
 

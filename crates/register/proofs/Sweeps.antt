@@ -9,6 +9,7 @@ use lib.Dec.{leb}
 use lib.ListN.{getD}
 use borrow.Author.Tests.{le-leb, lt-leb}
 use Rattle.runs.proofs.Turns.{then-with}
+use Rattle.runs.specs.Turns.{silent}
 use Rattle.model.specs.declared.Class.{Class}
 use Rattle.model.specs.declared.Class.the-variants.{Feeders, Peers, Own}
 use Rattle.model.specs.declared.Usable.{Usable}
@@ -20,7 +21,7 @@ use Rattle.model.proofs.RingsKept.{from-form, to-form, swapped-ok, swept-ok, sw
 use Rattle.generation.specs.declared.Dropped.{Dropped}
 use Rattle.ring.specs.Sweep.{swept-ring, swept-says, raised-by}
 use Rattle.ring.proofs.Sweeping.{sweep-floor}
-use Rattle.register.specs.Rules.{silent, raised-with, in-ring, swept-class}
+use Rattle.register.specs.Rules.{raised-with, in-ring, swept-class}
 use Rattle.register.specs.Words.{RegisterWords, RegisterReads, RegisterTurns}
 use Rattle.register.proofs.InRings.{still-words}
 

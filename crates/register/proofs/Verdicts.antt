@@ -3,6 +3,7 @@ use Prim.Native.Nat.{ℕ, _<_}
 use mathlib.Core.Path.{_≡_, refl, sym, ap, subst, _∙_}
 use mathlib.Core.Bool.{Bool, true, false, cond, not, _||_}
 use mathlib.Core.List.{List}
+use Rattle.runs.specs.Turns.{silent}
 use Rattle.model.specs.declared.Verdict.{Verdict}
 use Rattle.model.specs.declared.Verdict.the-variants.{New, Duplicate, Late, Ahead, Full, Unjudged}
 use Rattle.model.specs.declared.Usable.{Usable}
@@ -11,10 +12,10 @@ use Rattle.model.specs.Numbers.{under}
 use Rattle.model.specs.Generation.{as-read}
 use Rattle.model.specs.Register.{Ring, Register, holds, holds-any, any-class, sweep}
 use Rattle.model.specs.RegisterWords.{register-form}
-use Rattle.model.specs.Judge.{Ask, bucket-of, window-for, in-window, front-past, unjudged, verdict, Judged, judge, ahead-for, judge-batch}
+use Rattle.model.specs.Judge.{Ask, bucket-of, window-for, in-window, front-past, unjudged, verdict, Judgement, judge, ahead-for, judge-batch}
 use Rattle.model.proofs.RingsKept.{from-form, to-form, sweep-ok}
 use Rattle.model.proofs.Judging.{read-positive, judge-ok}
-use Rattle.register.specs.Rules.{silent, judged-register, judge-says, batch-register, batch-says}
+use Rattle.register.specs.Rules.{judged-register, judge-says, batch-register, batch-says}
 use Rattle.register.specs.Words.{RegisterWords, RegisterReads, RegisterTurns}
 use Rattle.register.proofs.InRings.{still-words}
 
@@ -109,7 +110,7 @@ module _ (u : Usable) (a : Ask) where
     unjudged-turns t = record {
       does = λ reg ok is.
           let e = not-judged reg (idle-says reg ok is ∙ t) in
-          (is ∙ ap (λ (j : Judged). register-form u .enc (j .register)) e, ap (λ (j : Judged). j .says) e);
+          (is ∙ ap (λ (j : Judgement). register-form u .enc (j .register)) e, ap (λ (j : Judgement). j .says) e);
     }
 
     pub judged-turns : (last : List ℕ) (v : Verdict) → (pending || not (a .judging)) ≡ false
@@ -120,7 +121,7 @@ module _ (u : Usable) (a : Ask) where
           let e = is-judged reg (idle-says reg ok is ∙ t) in
           let q = one .does reg ok is .0 in
           let k = to-form u (sweep u (a .ms) reg) (sweep-ok u (a .ms) reg (from-form u reg ok)) in
-          (q ∙ ap (λ (j : Judged). register-form u .enc (j .register)) e, two .says (sweep u (a .ms) reg) k q ∙ ap (λ (j : Judged). j .says) e);
+          (q ∙ ap (λ (j : Judgement). register-form u .enc (j .register)) e, two .says (sweep u (a .ms) reg) k q ∙ ap (λ (j : Judgement). j .says) e);
     }
 
   judged-ok : (reg : Register) → register-form u .Ok reg → register-form u .Ok (judged-register u a reg)

@@ -17,10 +17,6 @@ use Rattle.generation.specs.declared.Dropped.{Dropped}
 use Rattle.ring.specs.Sweep.{swept-ring, swept-says, raised-by}
 use Rattle.register.specs.declared.judging.Ask.{Ask}
 
--- no answer
-abbrev pub silent : Register → Unit {0}
-silent reg = tt
-
 -- the floor raised to a stamp, and by what went
 abbrev pub raised : ℕ → Register → Register
 raised stamp reg = with-floor (raise (reg .floor) stamp) reg

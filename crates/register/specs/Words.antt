@@ -12,8 +12,8 @@ use Rattle.model.specs.Register.{Register}
 use Rattle.model.specs.RegisterWords.{register-form}
 use Rattle.model.specs.Words.{ring-width, register-width, ring-start}
 use Rattle.model.specs.Most.{ring-most}
-use Rattle.register.specs.declared.places.Place.{Place}
-use Rattle.register.specs.declared.places.Rings.{Rings}
+use Rattle.register.specs.declared.extents.RingExtent.{RingExtent}
+use Rattle.register.specs.declared.extents.Rings.{Rings}
 
 -- Contracts, each said of every register that the words may be.
 abbrev pub RegisterReads : {R : Type 0} → Usable → (Register → R) → List ℕ → R → Type 0
@@ -37,7 +37,7 @@ pub record RingsOf (u : Usable) (n : Rings) : Type 0 where
   pub few : n .width ≤ ring-most
 
 -- where a class's ring lies
-pub record RingAt (u : Usable) (c : Class) (p : Place) : Type 0 where
+pub record RingAt (u : Usable) (c : Class) (p : RingExtent) : Type 0 where
   pub slots : p .slots ≡ u .slots
   pub ring : p .ring ≡ ring-of u
   pub start : p .start ≡ ring-start u c

@@ -8,17 +8,18 @@ use numbers::layout;
 use numbers::spans;
 ghost use Prim.Native.Nat.{_≤_};
 ghost use lib.ListN.{length};
-ghost use Rattle.model.specs.declared.Usable.{Usable as Settings};
+ghost use Rattle.runs.specs.Turns.{silent};
+ghost use Rattle.model.specs.declared.Usable.{Usable};
 ghost use Rattle.model.specs.Numbers.{under};
 ghost use Rattle.model.specs.Register.{swept-to, published, begin as begun};
 ghost use Rattle.model.specs.Calls.{floor-answer};
-ghost use Rattle.register.specs.Rules.{raised, raised-with, begin-says, swept-answer, silent};
+ghost use Rattle.register.specs.Rules.{raised, raised-with, begin-says, swept-answer};
 ghost use Rattle.register.specs.Words.{RegisterReads, RegisterTurns};
 
 // Whether the register waits for the host's number.
 pub fn is_pending(part: &[u64]) -> bool
     requires { ⌜ 24 ≤ length (now part) ⌝ }
-    ensures { λ r. ⌜ ((u : Settings) → RegisterReads u (λ reg. reg .pending) (now (part .entry)) r) ⌝ }
+    ensures { λ r. ⌜ ((u : Usable) → RegisterReads u (λ reg. reg .pending) (now (part .entry)) r) ⌝ }
 {
     part[layout::PENDING] == 1
 }
@@ -26,7 +27,7 @@ pub fn is_pending(part: &[u64]) -> bool
 // The newest stamp that it may have forgotten, if any.
 pub fn floor(part: &[u64]) -> Answer
     requires { ⌜ 24 ≤ length (now part) ⌝ }
-    ensures { λ r. ⌜ ((u : Settings) → RegisterReads u (λ reg. floor-answer (reg .floor)) (now (part .entry)) r) ⌝ }
+    ensures { λ r. ⌜ ((u : Usable) → RegisterReads u (λ reg. floor-answer (reg .floor)) (now (part .entry)) r) ⌝ }
 {
     if part[layout::HAS_FLOOR] == 1 {
         return Answer::FloorAt(part[layout::FLOOR]);
@@ -37,7 +38,7 @@ pub fn floor(part: &[u64]) -> Answer
 // The bucket up to which it is swept, and that in milliseconds.
 pub fn swept(part: &[u64]) -> Answer
     requires { ⌜ 24 ≤ length (now part) ⌝ }
-    ensures { λ r. ⌜ ((u : Settings) → RegisterReads u (swept-answer u) (now (part .entry)) r) ⌝ }
+    ensures { λ r. ⌜ ((u : Usable) → RegisterReads u (swept-answer u) (now (part .entry)) r) ⌝ }
 {
     Answer::SweptTo(part[layout::SWEPT], part[layout::PUBLISHED])
 }
@@ -45,7 +46,7 @@ pub fn swept(part: &[u64]) -> Answer
 // The sweep that it publishes to the share book, in milliseconds.
 pub fn published_sweep(part: &[u64]) -> Judged
     requires { ⌜ 24 ≤ length (now part) ⌝ }
-    ensures { λ r. ⌜ ((u : Settings) → RegisterReads u (λ reg. published u (reg .swept)) (now (part .entry)) (r .0)) ⌝ }
+    ensures { λ r. ⌜ ((u : Usable) → RegisterReads u (λ reg. published u (reg .swept)) (now (part .entry)) (r .0)) ⌝ }
 {
     Judged(part[layout::PUBLISHED])
 }
@@ -53,7 +54,7 @@ pub fn published_sweep(part: &[u64]) -> Judged
 // Whether a stamp is at or below the floor.
 pub fn is_under(part: &[u64], stamp: u64) -> bool
     requires { ⌜ 24 ≤ length (now part) ⌝ }
-    ensures { λ r. ⌜ ((u : Settings) → RegisterReads u (λ reg. under stamp (reg .floor)) (now (part .entry)) r) ⌝ }
+    ensures { λ r. ⌜ ((u : Usable) → RegisterReads u (λ reg. under stamp (reg .floor)) (now (part .entry)) r) ⌝ }
 {
     (part[layout::HAS_FLOOR] == 1) & (stamp <= part[layout::FLOOR])
 }
@@ -61,7 +62,7 @@ pub fn is_under(part: &[u64], stamp: u64) -> bool
 // Raises the floor: it never falls, and one that is absent becomes the stamp.
 pub fn raise_floor(part: &mut [u64], stamp: u64)
     requires { ⌜ 24 ≤ length (now part) ⌝ }
-    ensures { λ r. ⌜ ((u : Settings) → RegisterTurns u (raised stamp) silent (now (part .entry)) (now (part .exit)) (tt {0})) ⌝ }
+    ensures { λ r. ⌜ ((u : Usable) → RegisterTurns u (raised stamp) silent (now (part .entry)) (now (part .exit)) (tt {0})) ⌝ }
 {
     if is_under(part, stamp) {
         return;
@@ -73,7 +74,7 @@ pub fn raise_floor(part: &mut [u64], stamp: u64)
 // The same by what a drop forgot.
 pub fn raise_by(part: &mut [u64], went: Dropped)
     requires { ⌜ 24 ≤ length (now part) ⌝ }
-    ensures { λ r. ⌜ ((u : Settings) → RegisterTurns u (raised-with went) silent (now (part .entry)) (now (part .exit)) (tt {0})) ⌝ }
+    ensures { λ r. ⌜ ((u : Usable) → RegisterTurns u (raised-with went) silent (now (part .entry)) (now (part .exit)) (tt {0})) ⌝ }
 {
     match went {
         Dropped::Nothing => {}
@@ -94,7 +95,7 @@ pub fn set_swept(part: &mut [u64], u: Usable, swept: Bucket)
 // Begins: a pending register's floor is raised to the host's number, and it is pending no longer.
 pub fn begin(part: &mut [u64], number: u64) -> Answer
     requires { ⌜ 24 ≤ length (now part) ⌝ }
-    ensures { λ r. ⌜ ((u : Settings) → RegisterTurns u (begun number) begin-says (now (part .entry)) (now (part .exit)) r) ⌝ }
+    ensures { λ r. ⌜ ((u : Usable) → RegisterTurns u (begun number) begin-says (now (part .entry)) (now (part .exit)) r) ⌝ }
 {
     if !is_pending(part) {
         return Answer::Already;

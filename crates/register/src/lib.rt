@@ -1,9 +1,9 @@
 // One register in its own part of the lent words: a heading of 24 words (six kept settings, swept, the published sweep, whether
 // there is a floor, the floor, whether it is pending, 13 spare words), then a ring of generations for each class.
+mod extents;
 mod forgetting;
 mod heading;
 mod judging;
-mod places;
 mod rings;
 mod sweeping;
 

@@ -1,19 +1,20 @@
 // A register's three rings, each in its place.
+use crate::extents;
+use crate::extents::Rings;
 use crate::heading;
-use crate::places;
-use crate::places::Rings;
 use model::Bucket;
 use model::Class;
 use model::Room;
 use model::Usable;
 use numbers::spans;
 ghost use Prim.Native.Nat.{_<_};
+ghost use Rattle.runs.specs.Turns.{silent};
 ghost use Rattle.model.specs.Class.{pick};
 ghost use Rattle.model.specs.Generation.{as-read as read-as};
 ghost use Rattle.model.specs.Register.{holds, holds-any, any-class, strike as struck};
 ghost use Rattle.model.specs.Judge.{make-room};
 ghost use Rattle.ring.specs.Ring.{PositionOf, found-at};
-ghost use Rattle.register.specs.Rules.{swept-class, silent};
+ghost use Rattle.register.specs.Rules.{swept-class};
 ghost use Rattle.register.specs.Words.{RegisterWords, RegisterReads, RegisterTurns, RingsOf};
 
 // Whether a class's ring holds a fingerprint in a bucket, whose position is `position`.
@@ -29,7 +30,7 @@ fn holds_in(
     requires { ⌜ ((0 < fp) × RegisterWords u (now part)) × (RingsOf u rings × PositionOf (bucket .0) (rings .ring) position) ⌝ }
     ensures { λ r. ⌜ RegisterReads u (λ reg. holds (bucket .0) fp (pick class (reg .rings))) (now (part .entry)) r ⌝ }
 {
-    let at = places::place_in(u, rings, class);
+    let at = extents::extent_in(u, rings, class);
     let a = at.start;
     let e = at.end;
     ring::contains_at(&part[a..e], at.slots, at.ring, position, bucket, fp)
@@ -40,7 +41,7 @@ pub fn holds_any_class(part: &[u64], u: Usable, bucket: Bucket, fp: u64) -> bool
     requires { ⌜ (0 < fp) × RegisterWords u (now part) ⌝ }
     ensures { λ r. ⌜ RegisterReads u (λ reg. any-class (holds (bucket .0) fp) (reg .rings)) (now (part .entry)) r ⌝ }
 {
-    let rings = places::rings_of(u);
+    let rings = extents::rings_of(u);
     let at = ring::position(bucket, rings.ring);
     let feeders = holds_in(part, u, rings, Class::Feeders, at, bucket, fp);
     let peers = holds_in(part, u, rings, Class::Peers, at, bucket, fp);
@@ -53,7 +54,7 @@ fn holds_hash(part: &[u64], u: Usable, rings: Rings, class: Class, fp: u64) -> b
     requires { ⌜ ((0 < fp) × RegisterWords u (now part)) × RingsOf u rings ⌝ }
     ensures { λ r. ⌜ RegisterReads u (λ reg. holds-any fp (pick class (reg .rings))) (now (part .entry)) r ⌝ }
 {
-    let at = places::place_in(u, rings, class);
+    let at = extents::extent_in(u, rings, class);
     let a = at.start;
     let e = at.end;
     ring::contains_any(&part[a..e], at.slots, at.ring, fp)
@@ -65,7 +66,7 @@ pub fn contains_hash(part: &[u64], u: Usable, fp: u64) -> bool
     ensures { λ r. ⌜ RegisterReads u (λ reg. any-class (holds-any (read-as fp)) (reg .rings)) (now (part .entry)) r ⌝ }
 {
     let print = spans::as_read(fp);
-    let rings = places::rings_of(u);
+    let rings = extents::rings_of(u);
     let feeders = holds_hash(part, u, rings, Class::Feeders, print);
     let peers = holds_hash(part, u, rings, Class::Peers, print);
     let own = holds_hash(part, u, rings, Class::Own, print);
@@ -77,7 +78,7 @@ pub fn room(part: &[u64], u: Usable, class: Class, bucket: Bucket, fp: u64) -> R
     requires { ⌜ (0 < fp) × RegisterWords u (now part) ⌝ }
     ensures { λ r. ⌜ RegisterReads u (λ reg. make-room (u .slots) (bucket .0) fp (pick class (reg .rings))) (now (part .entry)) r ⌝ }
 {
-    let at = places::ring_at(u, class);
+    let at = extents::ring_extent(u, class);
     let a = at.start;
     let e = at.end;
     ring::room(&part[a..e], at.slots, at.ring, bucket, fp)
@@ -96,7 +97,7 @@ pub fn strike(
     requires { ⌜ ((0 < fp) × RegisterWords u (now part)) × RegisterReads u (λ reg. make-room (u .slots) (bucket .0) fp (pick class (reg .rings))) (now part) (found-at position) ⌝ }
     ensures { λ _. ⌜ RegisterTurns u (struck class (bucket .0) fp stamp) silent (now (part .entry)) (now (part .exit)) (tt {0}) ⌝ }
 {
-    let at = places::ring_at(u, class);
+    let at = extents::ring_extent(u, class);
     let a = at.start;
     let e = at.end;
     ring::insert(
@@ -122,7 +123,7 @@ pub fn sweep_class(
     requires { ⌜ RegisterWords u (now part) × RingsOf u rings ⌝ }
     ensures { λ _. ⌜ RegisterWords u (now (part .exit)) × RegisterTurns u (swept-class class (from .0) (through .0)) silent (now (part .entry)) (now (part .exit)) (tt {0}) ⌝ }
 {
-    let at = places::place_in(u, rings, class);
+    let at = extents::extent_in(u, rings, class);
     let a = at.start;
     let e = at.end;
     let went = ring::sweep(&mut part[a..e], at.slots, at.ring, from, through);

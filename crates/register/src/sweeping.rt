@@ -1,7 +1,7 @@
 // Sweep: every generation that the clock has passed is dropped, and the newest stamp that went raises the floor.
+use crate::extents;
+use crate::extents::Rings;
 use crate::heading;
-use crate::places;
-use crate::places::Rings;
 use crate::rings;
 use model::Bucket;
 use model::Class;
@@ -11,8 +11,8 @@ use numbers::layout;
 use numbers::spans;
 ghost use mathlib.Core.Path.{_≡_};
 ghost use Prim.Native.Nat.{_-_, _<_, max};
+ghost use Rattle.runs.specs.Turns.{silent};
 ghost use Rattle.model.specs.Register.{sweep-rings as swept-rings, sweep as swept-by};
-ghost use Rattle.register.specs.Rules.{silent};
 ghost use Rattle.register.specs.Words.{RegisterWords, RegisterTurns, RingsOf};
 
 // The bucket that a sweep starts from: the one swept last, or a whole ring back where the clock has moved further than that.
@@ -56,7 +56,7 @@ pub fn sweep(part: &mut [u64], u: Usable, reading: Judged)
         heading::set_swept(part, u, through);
         return;
     }
-    let sizes = places::rings_of(u);
+    let sizes = extents::rings_of(u);
     let from = sweep_from(swept, through, sizes.ring as u64);
     sweep_rings(part, u, sizes, from, through);
 }

@@ -291,7 +291,7 @@ fn looked(look: Look, settings: &[u64], words: &[u64], args: &[u64]) -> Answer {
         Look::Pending => strikes::pending(settings, words, first),
         Look::Swept => strikes::swept(settings, words, first),
         Look::Held => strikes::held(settings, words, first, second),
-        Look::Class => strikes::totals(settings, words, first),
+        Look::Class => strikes::class_totals(settings, words, first),
     }
 }
 

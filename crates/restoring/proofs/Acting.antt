@@ -12,8 +12,8 @@ use Rattle.model.specs.Words.{State, state-form}
 use Rattle.model.specs.Calls.{no-register, register-at, with-register}
 use Rattle.model.proofs.RingsKept.{RegisterOk}
 use Rattle.model.proofs.SoundnessKept.{there, register-in, with-register-ok}
-use Rattle.numbers.specs.declared.starts.Place.{Place}
-use Rattle.numbers.specs.Places.{RegisterAt}
+use Rattle.numbers.specs.declared.starts.RegisterExtent.{RegisterExtent}
+use Rattle.numbers.specs.RegisterAt.{RegisterAt}
 use Rattle.register.specs.Words.{RegisterTurns}
 use Rattle.taking.specs.Words.{RunWords, StateTurns}
 use Rattle.taking.proofs.InRun.{register-turns, run-words}
@@ -46,7 +46,7 @@ module _ (s : Settings) (r : ℕ) (h : r < s .registers) where
   }
 
   -- ---- a register's part
-  module _ (p : Place) (l : RegisterAt s r p) (ws : List ℕ) where
+  module _ (p : RegisterExtent) (l : RegisterAt s r p) (ws : List ℕ) where
     pub register-acts : {R : Type 0} (f : Register → Register) (out : Register → R) (last : List ℕ) (v : R)
         → ((reg : Register) → RegisterOk (usable-at s r) reg → RegisterOk (usable-at s r) (f reg))
         → RegisterTurns (p .u) f out (midOf (p .start) (p .end - p .start) ws) last v

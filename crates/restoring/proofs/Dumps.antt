@@ -7,6 +7,7 @@ use mathlib.Core.List.{List, [], _∷_}
 use mathlib.Core.Option.{Option, none, some}
 use lib.ListN.{length, getD}
 use Rattle.runs.proofs.Cases.{by-test}
+use Rattle.runs.specs.Turns.{silent}
 use Rattle.model.specs.declared.Class.{Class}
 use Rattle.model.specs.declared.Class.the-variants.{Feeders, Peers, Own}
 use Rattle.model.specs.declared.Settings.{Settings}
@@ -21,7 +22,7 @@ use Rattle.dump.proofs.Walks.{walk-next, walk-done}
 use Rattle.taking.specs.Words.{RunWords, StateTurns}
 use Rattle.restoring.specs.declared.heads.Head.{Head}
 use Rattle.restoring.specs.Words.{Acts}
-use Rattle.restoring.specs.Rules.{silent, headed, holding, restoring, RestoreActs, generation-restored, one-restored, class-restored, dump-restored, restored-whole, proven-to, resumed-whole}
+use Rattle.restoring.specs.Rules.{headed, holding, restoring, RestoreActs, generation-restored, one-restored, class-restored, dump-restored, restored-whole, proven-to, resumed-whole}
 use Rattle.restoring.proofs.Acting.{acts-turns}
 use Rattle.restoring.proofs.Steps.{Rest, rest-start, rest-step, rest-end}
 
@@ -31,7 +32,8 @@ module _ (s : Settings) (r : ℕ) where
       → RestoreActs s r (generation-restored s r h (dumped-at ds at .prints)) ws last v → RestoreActs s r (one-restored s r (h .class) (dumped-at ds at)) ws last v
   found-acts ds at h b n ws last v a =
       let e : headed h (dumped-at ds at .prints) ≡ dumped-at ds at = λ i. record { bucket = b i; newest = n i; prints = dumped-at ds at .prints } in
-      subst (λ (d : Dumped). RestoreActs s r (λ reg k. settled (usable-at s r) (h .class) d true (hold-all (usable-at s r) (s .shares) (h .class) d (dumped-at ds at .prints) (holding 0 reg k))) ws last v) e a
+      subst (λ (d : Dumped). RestoreActs s r (λ reg k. settled (usable-at s r) (h .class) d true
+      (hold-all (usable-at s r) (s .shares) (h .class) d (dumped-at ds at .prints) (holding 0 reg k))) ws last v) e a
 
   -- ---- a class
   settled-is : (c : Class) (d : Dumped) (w : Bool) (x : Holding)
@@ -103,7 +105,7 @@ module _ (s : Settings) (r : ℕ) where
         )
 
   -- ---- a dump
-  pub dump-acts : (d : Dump) (ws a b e last : List ℕ) (x y z : Bool) → Acts s r (λ reg k. raised-to-dumped (d .floor) reg) (λ reg k. k) silent ws a (tt {0})
+  pub dump-acts : (d : Dump) (ws a b e last : List ℕ) (x y z : Bool) → Acts s r (λ reg k. raised-to-dumped (d .floor) reg) (λ reg k. k) (λ reg. silent) ws a (tt {0})
       → RestoreActs s r (class-restored s r Feeders (d .classes .of-feeders) true) a b x
       → RestoreActs s r (class-restored s r Peers (d .classes .of-peers) x) b e y
       → RestoreActs s r (class-restored s r Own (d .classes .of-own) y) e last z
@@ -111,7 +113,8 @@ module _ (s : Settings) (r : ℕ) where
   unfolding restore
   dump-acts d ws a b e last x y z p q o w =
       let goal : Register → Book → Restoring = λ reg k. dump-restored s r d reg k in
-      let c1 : Register → Book → Restoring = λ reg k. restore-class (usable-at s r) (s .shares) Own (d .classes .of-own) (restore-class (usable-at s r) (s .shares) Peers (d .classes .of-peers) (class-restored s r Feeders (d .classes .of-feeders) true reg k)) in
+      let c1 : Register → Book → Restoring = λ reg k. restore-class (usable-at s r) (s .shares) Own (d .classes .of-own)
+      (restore-class (usable-at s r) (s .shares) Peers (d .classes .of-peers) (class-restored s r Feeders (d .classes .of-feeders) true reg k)) in
       let c2 : Register → Book → Restoring = λ reg k. restore-class (usable-at s r) (s .shares) Own (d .classes .of-own) (class-restored s r Peers (d .classes .of-peers) x reg k) in
       let c3 : Register → Book → Restoring = λ reg k. class-restored s r Own (d .classes .of-own) y reg k in
       let r0 : Rest s r ws ws goal goal = rest-start s r ws goal goal (λ reg k. refl) in
@@ -119,7 +122,8 @@ module _ (s : Settings) (r : ℕ) where
       let r2 : Rest s r ws b c2 goal = rest-step s r ws a b c1 goal c2 r1 q
       (λ reg k t.
       let m = class-restored s r Feeders (d .classes .of-feeders) true reg k in
-      ap (λ (v : Bool). restore-class (usable-at s r) (s .shares) Own (d .classes .of-own) (restore-class (usable-at s r) (s .shares) Peers (d .classes .of-peers) (restoring v (m .register) (m .book)))) t) in
+      ap (λ (v : Bool). restore-class (usable-at s r) (s .shares) Own (d .classes .of-own)
+      (restore-class (usable-at s r) (s .shares) Peers (d .classes .of-peers) (restoring v (m .register) (m .book)))) t) in
       let r3 : Rest s r ws e c3 goal = rest-step s r ws b e c2 goal c3 r2 o
       (λ reg k t.
       let m = class-restored s r Peers (d .classes .of-peers) x reg k in
@@ -147,7 +151,7 @@ module _ (s : Settings) (r : ℕ) where
     resume-turns p ws last v a = acts-turns s r h ws last a
 
     pub resume-plain : (proven : Bool) (floor : ℕ) (ws mid last : List ℕ) (v : Bool) → proven ≡ false
-        → Acts s r (λ reg k. floor-gone reg) (λ reg k. k) silent ws mid (tt {0}) → RestoreActs s r (dump-restored s r d) mid last v
+        → Acts s r (λ reg k. floor-gone reg) (λ reg k. k) (λ reg. silent) ws mid (tt {0}) → RestoreActs s r (dump-restored s r d) mid last v
         → StateTurns s (λ t. resumed s r t (proven-to proven floor) (some d) .state) (resumed-whole s r d (proven-to proven floor)) ws last v
     unfolding resume raised-to-proven
     resume-plain proven floor ws mid last v e a b =
@@ -155,8 +159,8 @@ module _ (s : Settings) (r : ℕ) where
         rw e (resume-turns none ws last v acts)
 
     pub resume-proven : (proven : Bool) (floor : ℕ) (ws mid back last : List ℕ) (v : Bool) → proven ≡ true
-        → Acts s r (λ reg k. floor-gone reg) (λ reg k. k) silent ws mid (tt {0}) → RestoreActs s r (dump-restored s r d) mid back v
-        → Acts s r (λ reg k. raised floor reg) (λ reg k. k) silent back last (tt {0})
+        → Acts s r (λ reg k. floor-gone reg) (λ reg k. k) (λ reg. silent) ws mid (tt {0}) → RestoreActs s r (dump-restored s r d) mid back v
+        → Acts s r (λ reg k. raised floor reg) (λ reg k. k) (λ reg. silent) back last (tt {0})
         → StateTurns s (λ t. resumed s r t (proven-to proven floor) (some d) .state) (resumed-whole s r d (proven-to proven floor)) ws last v
     unfolding resume raised-to-proven
     resume-proven proven floor ws mid back last v e a b f =

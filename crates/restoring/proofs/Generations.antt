@@ -6,6 +6,7 @@ use mathlib.Core.Path.{_≡_, refl, sym, ap, subst, _∙_}
 use mathlib.Core.Bool.{Bool, true, false, not}
 use borrow.Author.Tests.{not-false}
 use Rattle.runs.proofs.Cases.{split-if}
+use Rattle.runs.specs.Turns.{silent}
 use Rattle.model.proofs.Choice.{true-false}
 use mathlib.Core.List.{List, [], _∷_}
 use lib.ListN.{length, getD, drop}
@@ -25,7 +26,8 @@ use Rattle.taking.specs.Words.{RunWords}
 use Rattle.restoring.specs.declared.heads.Head.{Head}
 use Rattle.restoring.specs.declared.heads.Tally.{Tally}
 use Rattle.restoring.specs.Words.{Now, Acts}
-use Rattle.restoring.specs.Rules.{Suits, silent, headed, room-in, fits-in, held-at, held-in, may-draw, drawn-if, holding, tally-of, HoldActs, AllOnes, one-held, all-held, restoring, RestoreActs, generation-restored}
+use Rattle.restoring.specs.Rules.{Suits, headed, room-in, fits-in, held-at, held-in, may-draw, drawn-if, holding, tally-of, HoldActs, AllOnes, one-held, all-held}
+use Rattle.restoring.specs.Rules.{restoring, RestoreActs, generation-restored}
 use Rattle.restoring.proofs.Steps.{Rest, rest-start, rest-step, rest-end}
 
 module _ (s : Settings) (r : ℕ) (h : Head) where
@@ -106,7 +108,8 @@ module _ (s : Settings) (r : ℕ) (h : Head) where
     pub holds-start : RunWords s before → Holds before 0 0
     holds-start w = record { words = w; few = omega arith; rest = rest-start s r before (all-from prints prints 0) (all-held s r h prints) (λ reg k. refl) }
 
-    pub holds-next : (inside : next-at (words-of bs) at ≤ length bs / 8) (ws last : List ℕ) (n j fp : ℕ) (v : Tally) → Holds ws n j → j < length-at (words-of bs) at → fp ≡ getD (words-of bs) (at + 3 + j) 0
+    pub holds-next : (inside : next-at (words-of bs) at ≤ length bs / 8) (ws last : List ℕ) (n j fp : ℕ) (v : Tally) → Holds ws n j → j < length-at (words-of bs) at → fp
+        ≡ getD (words-of bs) (at + 3 + j) 0
         → RunWords s last → AllOnes s r h fp n ws last v → v .draws ≤ n + 1 → v .fits ≡ true → Holds last (v .draws) (j + 1)
     holds-next inside ws last n j fp v i l f w done less fit = record {
       words = w;
@@ -122,7 +125,8 @@ module _ (s : Settings) (r : ℕ) (h : Head) where
           ∙ ap (λ (z : List ℕ). all-from prints z n reg k) (sym q));
     }
 
-    pub holds-stop : (inside : next-at (words-of bs) at ≤ length bs / 8) (ws last : List ℕ) (n j fp : ℕ) (v : Tally) → Holds ws n j → j < length-at (words-of bs) at → fp ≡ getD (words-of bs) (at + 3 + j) 0
+    pub holds-stop : (inside : next-at (words-of bs) at ≤ length bs / 8) (ws last : List ℕ) (n j fp : ℕ) (v : Tally) → Holds ws n j → j < length-at (words-of bs) at → fp
+        ≡ getD (words-of bs) (at + 3 + j) 0
         → AllOnes s r h fp n ws last v → v .fits ≡ false → HoldActs s r (all-held s r h prints) before last v
     holds-stop inside ws last n j fp v i l f done unfit =
         let stop : Register → Book → Holding = λ reg k. record { register = reg; book = k; draws = v .draws; fits = v .fits } in
@@ -138,7 +142,8 @@ module _ (s : Settings) (r : ℕ) (h : Head) where
         ∙ ap (λ (z : List ℕ). all-from prints z n reg k) (sym q)) in
         rest-end s r before last stop (all-held s r h prints) (λ x. x .register) (λ x. x .book) tally-of v rest (λ reg k. refl) (λ reg k. refl) (λ reg k. refl)
 
-    pub holds-end : (inside : next-at (words-of bs) at ≤ length bs / 8) (ws : List ℕ) (n j : ℕ) → Holds ws n j → length-at (words-of bs) at ≤ j → HoldActs s r (all-held s r h prints) before ws (record { draws = n; fits = true })
+    pub holds-end : (inside : next-at (words-of bs) at ≤ length bs / 8) (ws : List ℕ) (n j : ℕ) → Holds ws n j → length-at (words-of bs) at ≤ j → HoldActs s r
+        (all-held s r h prints) before ws (record { draws = n; fits = true })
     holds-end inside ws n j i l =
         let q = prints-end bs at inside j l in
         let e : (reg : Register) (k : Book) → all-from prints (drop j prints) n reg k ≡ holding n reg k = λ reg k. ap (λ (z : List ℕ). all-from prints z n reg k) q ∙ done-is prints n reg k in
@@ -167,7 +172,7 @@ module _ (s : Settings) (r : ℕ) (h : Head) where
     none-back who sec k = refl
 
     pub returns-next : (ws last : List ℕ) (n : ℕ) → Returns ws n → 0 < n → RunWords s last
-        → Acts s r (λ reg k. reg) (λ reg k. undrawn (Restored (h .class)) (h .second .0) k) silent ws last (tt {0}) → Returns last (n - 1)
+        → Acts s r (λ reg k. reg) (λ reg k. undrawn (Restored (h .class)) (h .second .0) k) (λ reg. silent) ws last (tt {0}) → Returns last (n - 1)
     returns-next ws last n i l w a = record {
       words = w;
       rest = rest-step s r before ws last (back n) (back all) (back (n - 1)) (i .rest) a
@@ -175,7 +180,7 @@ module _ (s : Settings) (r : ℕ) (h : Head) where
     }
 
     pub returns-end : (ws : List ℕ) (n : ℕ) → Returns ws n → n ≤ 0
-        → Acts s r (λ reg k. reg) (λ reg k. undrawn-all all (Restored (h .class)) (h .second .0) k) silent before ws (tt {0})
+        → Acts s r (λ reg k. reg) (λ reg k. undrawn-all all (Restored (h .class)) (h .second .0) k) (λ reg. silent) before ws (tt {0})
     returns-end ws n i l =
         let z : n ≡ 0 = omega arith in
         rest-end s r before ws (back n) (back all) (λ x. x .register) (λ x. x .book) (λ x. tt {0}) (tt {0}) (i .rest) (λ reg k. refl)
@@ -203,8 +208,8 @@ module _ (s : Settings) (r : ℕ) (h : Head) where
     }
 
     pub generation-failed : (mid back last : List ℕ) (v : Tally) → Suits s r h → HoldActs s r (all-held s r h ps) ws mid v → v .fits ≡ false
-        → Acts s r (λ reg k. reg) (λ reg k. undrawn-all (v .draws) (Restored (h .class)) (h .second .0) k) silent mid back (tt {0})
-        → Acts s r (λ reg k. failed-at (h .class) (h .bucket .0) (h .newest) reg) (λ reg k. k) silent back last (tt {0})
+        → Acts s r (λ reg k. reg) (λ reg k. undrawn-all (v .draws) (Restored (h .class)) (h .second .0) k) (λ reg. silent) mid back (tt {0})
+        → Acts s r (λ reg k. failed-at (h .class) (h .bucket .0) (h .newest) reg) (λ reg k. k) (λ reg. silent) back last (tt {0})
         → RestoreActs s r (generation-restored s r h ps) ws last false
     generation-failed mid back last v u a e b f = record {
       does = λ t reg k now.
@@ -212,6 +217,7 @@ module _ (s : Settings) (r : ℕ) (h : Head) where
           let x = all-held s r h ps reg k in
           let y = b .does t (x .register) (x .book) (d .0) in
           let z = f .does t (x .register) (undrawn-all (v .draws) (Restored (h .class)) (h .second .0) (x .book)) (y .0) in
-          let n = subst (λ (i : ℕ). Now s r t last (failed-at (h .class) (h .bucket .0) (h .newest) (x .register)) (undrawn-all i (Restored (h .class)) (h .second .0) (x .book))) (ap (λ (i : Tally). i .draws) (d .1)) (z .0) in
+          let n = subst (λ (i : ℕ). Now s r t last (failed-at (h .class) (h .bucket .0) (h .newest) (x .register))
+          (undrawn-all i (Restored (h .class)) (h .second .0) (x .book))) (ap (λ (i : Tally). i .draws) (d .1)) (z .0) in
           subst (λ (z : Restoring). Now s r t last (z .register) (z .book) × (false ≡ z .whole)) (failed-is u x (sym (ap (λ (z : Tally). z .fits) (d .1)) ∙ e)) (n, refl);
     }

@@ -7,6 +7,7 @@ use mathlib.Core.Option.{none}
 use types.Run.{OneOf}
 use denote.Enum.Declared.{tagOf}
 use borrow.Rule.Slice.PartMut.{midOf, putMid}
+use Rattle.runs.specs.Turns.{silent}
 use Rattle.model.specs.RegisterWords.{register-form}
 use Rattle.model.proofs.Room.{the-type}
 use Rattle.model.specs.declared.Class.{Class}
@@ -23,15 +24,14 @@ use Rattle.model.specs.Dump.{failed, raised-to-dumped}
 use Rattle.model.proofs.Bounds.{fit-usable, slots-small}
 use Rattle.model.proofs.Judging.{read-positive}
 use Rattle.model.proofs.RingsKept.{RegisterOk, strike-ok, failed-ok, floor-ok}
-use Rattle.numbers.specs.declared.starts.Place.{Place}
-use Rattle.numbers.specs.Places.{RegisterAt}
+use Rattle.numbers.specs.declared.starts.RegisterExtent.{RegisterExtent}
+use Rattle.numbers.specs.RegisterAt.{RegisterAt}
 use Rattle.register.specs.Rules.{failed-at, floor-gone, raised}
-use Rattle.register.specs.Rules.{silent as silent-register}
 use Rattle.register.specs.Words.{RegisterReads, RegisterTurns}
 use Rattle.taking.specs.Words.{RunWords}
 use Rattle.taking.proofs.Taking.{not-at}
 use Rattle.restoring.specs.declared.heads.Head.{Head}
-use Rattle.restoring.specs.Rules.{silent, room-in, fits-in, held-at, held-in}
+use Rattle.restoring.specs.Rules.{room-in, fits-in, held-at, held-in}
 use Rattle.restoring.specs.Words.{Acts}
 use Rattle.restoring.proofs.Acting.{register-acts, acts-words}
 
@@ -59,7 +59,7 @@ module _ (u : Usable) (h : Head) (fp : ℕ) where
 
   pub hold-strikes : (ws last : List ℕ) (print : ℕ) (m : Room) (i : ℕ) → print ≡ as-read fp → m ≡ At i
       → RegisterReads u (λ reg. make-room (u .slots) (h .bucket .0) print (pick (h .class) (reg .rings))) ws m
-      → RegisterTurns u (strike (h .class) (h .bucket .0) print (h .newest)) silent-register ws last (tt {0})
+      → RegisterTurns u (strike (h .class) (h .bucket .0) print (h .newest)) silent ws last (tt {0})
       → RegisterTurns u (held-in u h fp) (λ reg. fits-in (room-in u h fp reg)) ws last true
   hold-strikes ws last print m i e a f t = record {
     does = λ reg ok is.
@@ -87,7 +87,7 @@ unfolding raised-to-dumped
 dumped-fine u n reg ok = floor-ok u _ reg ok
 
 -- ---- in the run
-module _ (s : Settings) (r : ℕ) (q : r < s .registers) (p : Place) (l : RegisterAt s r p) (ws last : List ℕ) (w : RunWords s ws) where
+module _ (s : Settings) (r : ℕ) (q : r < s .registers) (p : RegisterExtent) (l : RegisterAt s r p) (ws last : List ℕ) (w : RunWords s ws) where
   abbrev part : List ℕ
   part = midOf (p .start) (p .end - p .start) ws
 
@@ -103,27 +103,27 @@ module _ (s : Settings) (r : ℕ) (q : r < s .registers) (p : Place) (l : Regist
       (λ reg ok. held-fine (usable-at s r) h fp small reg _ refl ok) t2 in
       (acts-words s r q ws after w a, a)
 
-  pub fail-acts : (h : Head) → RegisterTurns (p .u) (failed-at (h .class) (h .bucket .0) (h .newest)) silent-register part last (tt {0})
-      → RunWords s after × Acts s r (λ reg k. failed-at (h .class) (h .bucket .0) (h .newest) reg) (λ reg k. k) silent ws after (tt {0})
+  pub fail-acts : (h : Head) → RegisterTurns (p .u) (failed-at (h .class) (h .bucket .0) (h .newest)) silent part last (tt {0})
+      → RunWords s after × Acts s r (λ reg k. failed-at (h .class) (h .bucket .0) (h .newest) reg) (λ reg k. k) (λ reg. silent) ws after (tt {0})
   fail-acts h t =
-      let a = register-acts s r q p l ws (failed-at (h .class) (h .bucket .0) (h .newest)) silent-register last (tt {0})
+      let a = register-acts s r q p l ws (failed-at (h .class) (h .bucket .0) (h .newest)) silent last (tt {0})
       (failed-fine (usable-at s r) (h .class) (h .bucket .0) (h .newest)) t in
       (acts-words s r q ws after w a, a)
 
-  pub dumped-acts : (n : ℕ) → ((u : Usable) → RegisterTurns u (raised-to-dumped n) silent-register part last (tt {0}))
-      → RunWords s after × Acts s r (λ reg k. raised-to-dumped n reg) (λ reg k. k) silent ws after (tt {0})
+  pub dumped-acts : (n : ℕ) → ((u : Usable) → RegisterTurns u (raised-to-dumped n) silent part last (tt {0}))
+      → RunWords s after × Acts s r (λ reg k. raised-to-dumped n reg) (λ reg k. k) (λ reg. silent) ws after (tt {0})
   dumped-acts n t =
-      let a = register-acts s r q p l ws (raised-to-dumped n) silent-register last (tt {0}) (dumped-fine (usable-at s r) n) (t (p .u)) in
+      let a = register-acts s r q p l ws (raised-to-dumped n) silent last (tt {0}) (dumped-fine (usable-at s r) n) (t (p .u)) in
       (acts-words s r q ws after w a, a)
 
-  pub forget-acts : ((u : Usable) → RegisterTurns u floor-gone silent-register part last (tt {0}))
-      → RunWords s after × Acts s r (λ reg k. floor-gone reg) (λ reg k. k) silent ws after (tt {0})
+  pub forget-acts : ((u : Usable) → RegisterTurns u floor-gone silent part last (tt {0}))
+      → RunWords s after × Acts s r (λ reg k. floor-gone reg) (λ reg k. k) (λ reg. silent) ws after (tt {0})
   forget-acts t =
-      let a = register-acts s r q p l ws floor-gone silent-register last (tt {0}) (λ reg ok. floor-ok (usable-at s r) none reg ok) (t (p .u)) in
+      let a = register-acts s r q p l ws floor-gone silent last (tt {0}) (λ reg ok. floor-ok (usable-at s r) none reg ok) (t (p .u)) in
       (acts-words s r q ws after w a, a)
 
-  pub raise-acts : (n : ℕ) → ((u : Usable) → RegisterTurns u (raised n) silent-register part last (tt {0}))
-      → RunWords s after × Acts s r (λ reg k. raised n reg) (λ reg k. k) silent ws after (tt {0})
+  pub raise-acts : (n : ℕ) → ((u : Usable) → RegisterTurns u (raised n) silent part last (tt {0}))
+      → RunWords s after × Acts s r (λ reg k. raised n reg) (λ reg k. k) (λ reg. silent) ws after (tt {0})
   raise-acts n t =
-      let a = register-acts s r q p l ws (raised n) silent-register last (tt {0}) (λ reg ok. floor-ok (usable-at s r) _ reg ok) (t (p .u)) in
+      let a = register-acts s r q p l ws (raised n) silent last (tt {0}) (λ reg ok. floor-ok (usable-at s r) _ reg ok) (t (p .u)) in
       (acts-words s r q ws after w a, a)

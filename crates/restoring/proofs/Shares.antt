@@ -4,7 +4,7 @@ use mathlib.Core.Path.{_≡_, refl, ap, _∙_}
 use mathlib.Core.Bool.{Bool}
 use mathlib.Core.List.{List}
 use borrow.Rule.Slice.PartMut.{midOf, putMid}
-use Rattle.runs.specs.Turns.{Reads}
+use Rattle.runs.specs.Turns.{Reads, silent}
 use Rattle.runs.proofs.Cases.{by-test}
 use Rattle.model.specs.declared.Class.{Class}
 use Rattle.model.specs.declared.Class.the-variants.{Feeders, Peers, Own}
@@ -25,7 +25,7 @@ use Rattle.taking.specs.Words.{RunWords}
 use Rattle.taking.proofs.InRun.{class-asks, class-turns}
 use Rattle.taking.proofs.Draws.{limits-says, closed-says}
 use Rattle.restoring.specs.declared.heads.Head.{Head}
-use Rattle.restoring.specs.Rules.{Suits, silent, may-draw, drawn-if}
+use Rattle.restoring.specs.Rules.{Suits, may-draw, drawn-if}
 use Rattle.restoring.specs.Words.{put, Acts}
 use Rattle.restoring.proofs.Acting.{acts-words}
 
@@ -41,10 +41,10 @@ module _ (s : Settings) (r : ℕ) (q : r < s .registers) (h : Head) (ws : List �
   share-asks = class-asks s (h .class) a e start end ws w
 
   pub return-acts : (last : List ℕ) → ClassTurns (s .shares) (class-of (Restored (h .class))) (returned (Restored (h .class)) (h .second .0)) (λ x. tt {0}) (midOf a (e - a) ws) last (tt {0})
-      → RunWords s (putMid a (e - a) ws last) × Acts s r (λ reg k. reg) (λ reg k. undrawn (Restored (h .class)) (h .second .0) k) silent ws (putMid a (e - a) ws last) (tt {0})
+      → RunWords s (putMid a (e - a) ws last) × Acts s r (λ reg k. reg) (λ reg k. undrawn (Restored (h .class)) (h .second .0) k) (λ reg. silent) ws (putMid a (e - a) ws last) (tt {0})
   unfolding class-of undrawn
   return-acts last t =
-      let acts : Acts s r (λ reg k. reg) (λ reg k. undrawn (Restored (h .class)) (h .second .0) k) silent ws (putMid a (e - a) ws last) (tt {0}) = record {
+      let acts : Acts s r (λ reg k. reg) (λ reg k. undrawn (Restored (h .class)) (h .second .0) k) (λ reg. silent) ws (putMid a (e - a) ws last) (tt {0}) = record {
         does = λ x reg k n.
             let y = class-turns s (h .class) a e start end t .does (put r reg k x) (n .ok) (n .words) in
             let b = undrawn-ok (s .shares) (Restored (h .class)) (h .second .0) k (book-in s (put r reg k x) (n .ok)) in
@@ -56,7 +56,12 @@ module _ (s : Settings) (r : ℕ) (q : r < s .registers) (h : Head) (ws : List �
       (c : Reads (encode-front s) FrontOk (λ f. f .closed) (midOf 0 (20 - 0) ws) closed) where
     -- the class after the draw, in its book
     drawn-is : (k : Book) → limits ≡ k .limits → closed ≡ k .closed
-        → record { limits = k .limits; closed = k .closed; classes = swap (h .class) (drawn-class (s .shares) limits closed (Restored (h .class)) (h .second .0) (pick (h .class) (k .classes))) (k .classes) }
+        → record {
+          limits = k .limits;
+          closed = k .closed;
+          classes = swap (h .class)
+              (drawn-class (s .shares) limits closed (Restored (h .class)) (h .second .0) (pick (h .class) (k .classes))) (k .classes);
+        }
         ≡ drawn-if (s .shares) h k
     unfolding class-of drawn-class drawn draw-says
     drawn-is k x y =

@@ -24,10 +24,6 @@ use Rattle.restoring.specs.declared.heads.Head.{Head}
 use Rattle.restoring.specs.declared.heads.Tally.{Tally}
 use Rattle.restoring.specs.Words.{Acts}
 
--- no answer
-abbrev pub silent : Register → Book → Unit {0}
-silent reg k = tt
-
 -- a generation's head names the second in which its shares end
 pub record Suits (s : Settings) (r : ℕ) (h : Head) : Type 0 where
   pub second : h .second .0 ≡ second-of (h .bucket .0) (usable-at s r .bucket)

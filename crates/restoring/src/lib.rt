@@ -2,40 +2,56 @@
 mod classes;
 mod heads;
 mod holding;
-mod leaves;
+mod on_book;
+mod on_register;
 
 use model::Class;
 use model::Settings;
 use numbers::starts;
-use numbers::starts::Place;
+use numbers::starts::RegisterExtent;
 ghost use mathlib.Core.Option.{some};
 ghost use Prim.Native.Nat.{_<_};
 ghost use Rattle.model.specs.Dump.{words-of};
 ghost use Rattle.model.specs.Calls.{restored, resumed};
 ghost use Rattle.dump.specs.Walk.{Whole, dump-at, dump-end};
-ghost use Rattle.numbers.specs.Places.{RegisterAt};
+ghost use Rattle.numbers.specs.RegisterAt.{RegisterAt};
 ghost use Rattle.taking.specs.Words.{RunWords, StateTurns};
 ghost use Rattle.restoring.specs.Rules.{RestoreActs, dump-restored, restored-whole, proven-to, resumed-whole};
 
 // A dump whose lengths have been read: its floor, then its three classes.
-fn restore_dump(run: &mut [u64], s: Settings, r: usize, place: Place, bytes: &[u8]) -> bool
-    requires { ⌜ (RunWords s (now run) × RegisterAt s r place) × Whole (now bytes) (dump-end (words-of (now bytes))) ⌝ }
+fn restore_dump(
+    run: &mut [u64],
+    s: Settings,
+    r: usize,
+    extent: RegisterExtent,
+    bytes: &[u8],
+) -> bool
+    requires { ⌜ (RunWords s (now run) × RegisterAt s r extent) × Whole (now bytes) (dump-end (words-of (now bytes))) ⌝ }
     ensures { λ v. ⌜ RunWords s (now (run .exit)) × RestoreActs s r (dump-restored s r (dump-at (words-of (now (bytes .entry))))) (now (run .entry)) (now (run .exit)) v ⌝ }
 {
     let floor = dump::floor_word(bytes);
-    leaves::raise_to_dumped(run, s, r, place, floor);
-    let feeders = classes::restore_class(run, s, r, place, Class::Feeders, bytes, 1, true);
+    on_register::raise_to_dumped(run, s, r, extent, floor);
+    let feeders = classes::restore_class(run, s, r, extent, Class::Feeders, bytes, 1, true);
     let peers = classes::restore_class(
         run,
         s,
         r,
-        place,
+        extent,
         Class::Peers,
         bytes,
         feeders.next,
         feeders.whole,
     );
-    let own = classes::restore_class(run, s, r, place, Class::Own, bytes, peers.next, peers.whole);
+    let own = classes::restore_class(
+        run,
+        s,
+        r,
+        extent,
+        Class::Own,
+        bytes,
+        peers.next,
+        peers.whole,
+    );
     own.whole
 }
 
@@ -44,8 +60,8 @@ pub fn restore(run: &mut [u64], s: Settings, r: usize, bytes: &[u8]) -> bool
     requires { ⌜ (RunWords s (now run) × (r < s .registers)) × Whole (now bytes) (dump-end (words-of (now bytes))) ⌝ }
     ensures { λ v. ⌜ RunWords s (now (run .exit)) × StateTurns s (λ t. restored s r t (some (dump-at (words-of (now (bytes .entry))))) .state) (restored-whole s r (dump-at (words-of (now (bytes .entry))))) (now (run .entry)) (now (run .exit)) v ⌝ }
 {
-    let place = starts::place_of(s, r);
-    restore_dump(run, s, r, place, bytes)
+    let extent = starts::register_extent(s, r);
+    restore_dump(run, s, r, extent, bytes)
 }
 
 // The same, and the floor is forgotten first and raised to a proven one after.
@@ -60,12 +76,12 @@ pub fn resume(
     requires { ⌜ (RunWords s (now run) × (r < s .registers)) × Whole (now bytes) (dump-end (words-of (now bytes))) ⌝ }
     ensures { λ v. ⌜ RunWords s (now (run .exit)) × StateTurns s (λ t. resumed s r t (proven-to proven floor) (some (dump-at (words-of (now (bytes .entry))))) .state) (resumed-whole s r (dump-at (words-of (now (bytes .entry)))) (proven-to proven floor)) (now (run .entry)) (now (run .exit)) v ⌝ }
 {
-    let place = starts::place_of(s, r);
-    leaves::forget_floor(run, s, r, place);
-    let whole = restore_dump(run, s, r, place, bytes);
+    let extent = starts::register_extent(s, r);
+    on_register::forget_floor(run, s, r, extent);
+    let whole = restore_dump(run, s, r, extent, bytes);
     if !proven {
         return whole;
     }
-    leaves::raise_floor(run, s, r, place, floor);
+    on_register::raise_floor(run, s, r, extent, floor);
     whole
 }

@@ -6,7 +6,7 @@ use mathlib.Core.List.{List}
 use lib.ListN.{length, getD, set}
 use borrow.Rule.Slice.PartMut.{midOf, putMid}
 use Rattle.runs.specs.Form.{Exact}
-use Rattle.runs.specs.Combine.{at-place, testAll}
+use Rattle.runs.specs.Combine.{form-at, testAll}
 use Rattle.runs.specs.Turns.{Reads, Turns}
 use Rattle.runs.proofs.Exact.{many-exact, sound-is}
 use Rattle.runs.proofs.Parts.{Part, place-part}
@@ -35,7 +35,7 @@ module _ (S n : ℕ) where
 
   -- ---- position i, lent as `&words[a..e]`
   module _ (i : ℕ) (h : i < n) (a e : ℕ) (at : StartsAt S n i a) (he : e ≡ a + generation-width S) where
-    here : Part (places S n) (at-place (generation-place S n) i) (i * generation-width S) (λ ring. getD ring i empty) (λ ring g. set ring i g)
+    here : Part (places S n) (form-at (generation-place S n) i) (i * generation-width S) (λ ring. getD ring i empty) (λ ring g. set ring i g)
     here = place-part (generation-place S n) (generation-exact S n) n i empty h
 
     pub place-is : (ws : List ℕ) (ring : Ring) → places S n .Ok ring → ws ≡ places S n .enc ring

@@ -10,6 +10,7 @@ use lib.Dec.{eqb}
 use borrow.Rule.Slice.PartMut.{midOf}
 use Rattle.runs.proofs.Cases.{by-test}
 use Rattle.runs.proofs.Turns.{turns-as}
+use Rattle.runs.specs.Turns.{silent}
 use Rattle.model.specs.declared.Room.the-variants.{At}
 use Rattle.model.specs.Widths.{generation-width}
 use Rattle.model.specs.Generation.{Generation, empty, among}
@@ -21,7 +22,7 @@ use Rattle.generation.specs.Rules.{dropped-in, drop-in-says}
 use Rattle.generation.specs.Words.{Roomy, GenerationReads}
 use Rattle.generation.specs.declared.Dropped.{Dropped}
 use Rattle.generation.proofs.Looking.{roomy}
-use Rattle.ring.specs.Ring.{places, RingReads, RingTurns, RingWords, StartsAt, inserted-in, silent, drop-bucket-says}
+use Rattle.ring.specs.Ring.{places, RingReads, RingTurns, RingWords, StartsAt, inserted-in, drop-bucket-says}
 use Rattle.ring.proofs.Positions.{place-is, placed, of-placed, turned}
 
 -- ---- what the room that was found tells

@@ -59,7 +59,3 @@ inserted-in b fp stamp ring = with-generation ring b (insert b fp stamp (generat
 -- what `drop-bucket` forgets
 abbrev pub drop-bucket-says : ℕ → Ring → Dropped
 drop-bucket-says b ring = drop-in-says b (generation-at ring b)
-
--- no answer
-abbrev pub silent : Ring → Unit {0}
-silent ring = tt

@@ -8,11 +8,12 @@ use numbers::capped;
 ghost use mathlib.Core.Path.{_≡_};
 ghost use Prim.Native.Nat.{_≤_, _<_};
 ghost use Rattle.runs.specs.Combine.{testAll};
+ghost use Rattle.runs.specs.Turns.{silent};
 ghost use Rattle.model.specs.GenerationWords.{generation-place};
 ghost use Rattle.model.specs.Register.{holds, holds-any};
 ghost use Rattle.model.specs.Judge.{make-room};
 ghost use Rattle.model.specs.Dump.{drop-bucket};
-ghost use Rattle.ring.specs.Ring.{Sized, RingWords, RingReads, RingTurns, PositionOf, StartsAt, found-at, inserted-in, drop-bucket-says, silent};
+ghost use Rattle.ring.specs.Ring.{Sized, RingWords, RingReads, RingTurns, PositionOf, StartsAt, found-at, inserted-in, drop-bucket-says};
 ghost use Rattle.ring.specs.Sweep.{swept-ring, swept-says, newest-of};
 
 // The position of a bucket.

@@ -10,7 +10,7 @@ use lib.Seq.{take-at, drop-at, length-take-le}
 use Rattle.runs.specs.Words.{sameWords}
 use Rattle.runs.specs.Chunks.{flat}
 use Rattle.runs.specs.Form.{Form, Exact}
-use Rattle.runs.specs.Combine.{free, both, EachOk, wideRow, encRow, readRow, testRow, row, Place, at-place, many}
+use Rattle.runs.specs.Combine.{free, both, EachOk, wideRow, encRow, readRow, testRow, row, FormAt, form-at, many}
 use Rattle.runs.specs.Combine.{encUp, readUp, testUp, upTo, Marks, such, led, seen-as}
 use Rattle.runs.specs.Turns.{Is}
 use Rattle.runs.proofs.Cases.{by-test, both-true}
@@ -77,20 +77,20 @@ module _ {A : Type 0} (F : ℕ → Form A) (exact : (i : ℕ) → Exact (F i)) w
   }
 
 -- ---- n of one width: the row of those forms, in its words and its width
-module _ {A : Type 0} (P : Place A) where
-  pub wide-many : (i n : ℕ) → wideRow (at-place P) i n ≡ n * P .wide
+module _ {A : Type 0} (P : FormAt A) where
+  pub wide-many : (i n : ℕ) → wideRow (form-at P) i n ≡ n * P .wide
   unfolding wideRow
   wide-many i zero = sym (zero-mul (P .wide))
   wide-many i (suc n) = rw (wide-many (suc i) n, suc-mul) (omega arith)
 
-  pub flat-row : (i : ℕ) (xs : List A) → encRow (at-place P) i xs ≡ flat (P .enc) xs
+  pub flat-row : (i : ℕ) (xs : List A) → encRow (form-at P) i xs ≡ flat (P .enc) xs
   unfolding encRow flat
   flat-row i [] = refl
   flat-row i (x ∷ xs) = rw (flat-row (suc i) xs)
 
-  pub many-exact : ((i : ℕ) → Exact (at-place P i)) → (n : ℕ) → Exact (many P n)
+  pub many-exact : ((i : ℕ) → Exact (form-at P i)) → (n : ℕ) → Exact (many P n)
   many-exact exact n =
-      let r = row-exact (at-place P) exact n in
+      let r = row-exact (form-at P) exact n in
       record {
         width = λ xs ok. sym (ap length (flat-row 0 xs)) ∙ r .width xs ok ∙ wide-many 0 n;
         back = λ ws long t. let b = r .back ws (long ∙ sym (wide-many 0 n)) t in (b .0, b .1 ∙ flat-row 0 _);

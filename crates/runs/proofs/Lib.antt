@@ -8,3 +8,4 @@ pub mod Exact
 pub mod Parts
 pub mod Turns
 pub mod Walk
+pub mod Shifts

@@ -10,7 +10,7 @@ use lib.ListN.{length, getD, set, take, drop, drop-of-length-le, take-append-dro
 use lib.Seq.{take-at, drop-at, take-all, take-append-add, drop-append-add, take-take, take-add, drop-drop}
 use borrow.Rule.Slice.PartMut.{midOf, putMid}
 use Rattle.runs.specs.Form.{Form, Exact}
-use Rattle.runs.specs.Combine.{both, EachOk, wideRow, encRow, row, Place, at-place, many, seen-as}
+use Rattle.runs.specs.Combine.{both, EachOk, wideRow, encRow, row, FormAt, form-at, many, seen-as}
 use Rattle.runs.proofs.Words.{drop-take}
 use Rattle.runs.proofs.Each.{each-at}
 use Rattle.runs.proofs.Exact.{wide-many, flat-row}
@@ -106,10 +106,10 @@ module _ {A : Type 0} (F : ℕ → Form A) where
         }
 
 -- ---- place j of n of one width
-module _ {A : Type 0} (P : Place A) (exact : (i : ℕ) → Exact (at-place P i)) where
-  pub place-part : (n j : ℕ) (d : A) → j < n → Part (many P n) (at-place P j) (j * P .wide) (λ xs. getD xs j d) (λ xs y. set xs j y)
+module _ {A : Type 0} (P : FormAt A) (exact : (i : ℕ) → Exact (form-at P i)) where
+  pub place-part : (n j : ℕ) (d : A) → j < n → Part (many P n) (form-at P j) (j * P .wide) (λ xs. getD xs j d) (λ xs y. set xs j y)
   place-part n j d h =
-      let r = row-part (at-place P) exact n j d h in
+      let r = row-part (form-at P) exact n j d h in
       record {
         lies = record {
           inside = rw (wide-many P 0 j, wide-many P 0 n) at (r .lies .inside);

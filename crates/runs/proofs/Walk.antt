@@ -12,7 +12,7 @@ use lib.Seq.{drop-drop}
 use borrow.Rule.Slice.PartMut.{midOf}
 use Rattle.runs.specs.Words.{zeros}
 use Rattle.runs.specs.Form.{Form}
-use Rattle.runs.specs.Combine.{wideRow, testRow, Place, at-place, readUp, testUp}
+use Rattle.runs.specs.Combine.{wideRow, testRow, FormAt, form-at, readUp, testUp}
 
 -- place i of n lies within n places
 pub inside : (n i k : ℕ) → i < n → i * k + k ≤ n * k
@@ -59,16 +59,16 @@ module _ {A : Type 0} (F : ℕ → Form A) (n : ℕ) (ws : List ℕ) where
           record { within = omega arith; left = rw (add-one, he) (omega arith); passed = rw (and-assoc, t) step }
 
 -- the same over places of one width
-module _ {A : Type 0} (P : Place A) (n : ℕ) (ws : List ℕ) where
-  pub walk-start : Passed (at-place P) n ws 0 (0 * P .wide) true
-  walk-start = rw zero-mul (pass-start (at-place P) n ws)
+module _ {A : Type 0} (P : FormAt A) (n : ℕ) (ws : List ℕ) where
+  pub walk-start : Passed (form-at P) n ws 0 (0 * P .wide) true
+  walk-start = rw zero-mul (pass-start (form-at P) n ws)
 
-  module _ (i : ℕ) (all : Bool) (w : Passed (at-place P) n ws i (i * P .wide) all)
+  module _ (i : ℕ) (all : Bool) (w : Passed (form-at P) n ws i (i * P .wide) all)
       (a e : ℕ) (ha : a ≡ i * P .wide) (he : e ≡ a + P .wide) (h : i < n) where
-    pub walk-on : (b : Bool) → b ≡ P .testAt i (midOf a (e - a) ws) → Passed (at-place P) n ws (i + 1) ((i + 1) * P .wide) (all && b)
+    pub walk-on : (b : Bool) → b ≡ P .testAt i (midOf a (e - a) ws) → Passed (form-at P) n ws (i + 1) ((i + 1) * P .wide) (all && b)
     walk-on b t =
         let m : (i + 1) * P .wide ≡ e = rw (add-one, suc-mul) (omega arith) in
-        rw m (pass-on (at-place P) n ws i a all (rw ha w) e he h b t)
+        rw m (pass-on (form-at P) n ws i a all (rw ha w) e he h b t)
 
 -- ---- a loop over at most n, which stops at the first that is not used
 module _ {A : Type 0} (F : Form A) (used : List ℕ → Bool) (n i : ℕ) (ws : List ℕ) (h : i < n) where

@@ -60,23 +60,23 @@ module _ {A : Type 0} (F : ℕ → Form A) where
   }
 
 -- ---- n of one width, each tested at its place: a row whose place i is found by a product, i * wide
-pub record Place (A : Type 0) : Type 1 where
+pub record FormAt (A : Type 0) : Type 1 where
   pub wide : ℕ
   pub enc : A → List ℕ
   pub read : List ℕ → A
   pub OkAt : ℕ → A → Type 0
   pub testAt : ℕ → List ℕ → Bool
 
-abbrev pub at-place : {A : Type 0} → Place A → ℕ → Form A
-at-place P i = record { wide = P .wide; enc = P .enc; read = P .read; Ok = P .OkAt i; test = P .testAt i }
+abbrev pub form-at : {A : Type 0} → FormAt A → ℕ → Form A
+form-at P i = record { wide = P .wide; enc = P .enc; read = P .read; Ok = P .OkAt i; test = P .testAt i }
 
-abbrev pub readAll : {A : Type 0} → Place A → ℕ → List ℕ → List A
-readAll P n = readRow (at-place P) 0 n
+abbrev pub readAll : {A : Type 0} → FormAt A → ℕ → List ℕ → List A
+readAll P n = readRow (form-at P) 0 n
 
-abbrev pub testAll : {A : Type 0} → Place A → ℕ → ℕ → List ℕ → Bool
-testAll P i n = testRow (at-place P) i n
+abbrev pub testAll : {A : Type 0} → FormAt A → ℕ → ℕ → List ℕ → Bool
+testAll P i n = testRow (form-at P) i n
 
-abbrev pub many : {A : Type 0} → Place A → ℕ → Form (List A)
+abbrev pub many : {A : Type 0} → FormAt A → ℕ → Form (List A)
 many P n = record {
   wide = n * P .wide;
   enc = flat (P .enc);

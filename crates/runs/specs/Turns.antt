@@ -17,3 +17,7 @@ pub record Turns {A R : Type 0} (enc : A → List ℕ) (Ok : A → Type 0) (f : 
 -- a function that reads: of the words of x the result is `out x`
 pub record Reads {A R : Type 0} (enc : A → List ℕ) (Ok : A → Type 0) (out : A → R) (ws : List ℕ) (r : R) : Type 0 where
   pub says : (x : A) → Ok x → ws ≡ enc x → r ≡ out x
+
+-- what a function that answers nothing says
+abbrev pub silent : {A : Type 0} → A → Unit {0}
+silent x = tt

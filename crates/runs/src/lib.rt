@@ -1,5 +1,7 @@
 // Runs of words that mean nothing by themselves. Each loop goes over all its words with no branch inside, and a test keeps a
 // bool and does not leave early: so the compiler makes vector instructions of it, and of clear_words a memset.
+pub mod moves;
+
 ghost use mathlib.Core.Path.{_≡_};
 ghost use lib.ListN.{length, replicate};
 ghost use Rattle.runs.specs.Words.{zeros, sameWords};

@@ -11,8 +11,8 @@ use Rattle.runs.proofs.Cases.{by-test, both-true}
 use Rattle.model.specs.declared.Settings.{Settings}
 use Rattle.model.specs.Settings.{settings-of, settings-fit}
 use Rattle.model.specs.Words.{State}
-use Rattle.model.specs.Calls.{Deed, Call, On, Refusal, refusal, first-met, settings-words-fit, never-late}
-use Rattle.model.specs.Calls.{deed-fits, codes-fit, unfit, is-open, too-short, sound, unsound, no-such-register, late-deed, late, refused}
+use Rattle.model.specs.Calls.{Deed, Call, On, Refusal, refusal, first-met, settings-words-fit, no-refusals}
+use Rattle.model.specs.Calls.{deed-fits, codes-fit, unfit, is-open, too-short, sound, unsound, no-such-register, deed-refusals, own-refusals, refused}
 use Rattle.model.specs.Calls.{register-at, held-in}
 use Rattle.vet.specs.Vetted.{vetted}
 use Rattle.strikes.specs.Admitted.{vets, admits}
@@ -31,8 +31,8 @@ unfolding first-met
 none-of n b xs h e = by-test b (λ t. absurd (h (rw t at e))) (λ f. (f, rw f at e))
 
 -- what may refuse a call after 4
-unfoldable pub late-refusals : List Refusal → ℕ
-late-refusals own = first-met own
+unfoldable pub first-own : List Refusal → ℕ
+first-own own = first-met own
 
 -- ---- 1, 2 and 3
 module _ (st ws : List ℕ) (codes : Bool) where
@@ -100,15 +100,15 @@ module _ (st ws : List ℕ) (codes : Bool) (r : ℕ) where
     unfolding refused admits unfit codes-fit unsound is-open no-such-register
     refused-early n e h = rw (← same) (first-of (refusal 1 _ ∷ refusal 2 _ ∷ refusal 3 _ ∷ refusal 4 _ ∷ []) _ n (sym e) h)
 
-    pub refused-late : admits st ws codes r ≡ 0 → refused st ws (On r deed) ≡ late-refusals (late-deed (register-at r (held-in (settings-of st) ws)) deed)
-    unfolding refused admits unfit codes-fit unsound is-open no-such-register late late-refusals first-met
-    refused-late e = let p = admits-pass e in let q = p .0 .unmet in rw (← same) (rw (q .0, q .1, q .2, p .1))
+    pub refused-own : admits st ws codes r ≡ 0 → refused st ws (On r deed) ≡ first-own (deed-refusals (register-at r (held-in (settings-of st) ws)) deed)
+    unfolding refused admits unfit codes-fit unsound is-open no-such-register own-refusals first-own first-met
+    refused-own e = let p = admits-pass e in let q = p .0 .unmet in rw (← same) (rw (q .0, q .1, q .2, p .1))
 
 -- ---- a call on the book is no opening, names no register and has no refusal after 3
 pub record OnBook (call : Call) : Type 0 where
   pub shut : is-open call ≡ false
   pub unnumbered : (s : Settings) → no-such-register s call ≡ false
-  pub never : (s : Settings) (t : State) → late s call t ≡ never-late
+  pub never : (s : Settings) (t : State) → own-refusals s call t ≡ no-refusals
 
 module _ (st ws : List ℕ) (codes : Bool) (call : Call) (on : OnBook call) (same : codes ≡ codes-fit (settings-of st) call) where
   book-list : refused st ws call

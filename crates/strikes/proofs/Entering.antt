@@ -16,8 +16,8 @@ use Rattle.model.specs.Settings.{settings-of, settings-fit, shares-fit, words-n
 use Rattle.model.specs.Words.{class-start, class-width}
 use Rattle.model.specs.Most.{words-most}
 use Rattle.model.proofs.Bounds.{fit-shares}
-use Rattle.numbers.specs.declared.starts.Place.{Place}
-use Rattle.numbers.specs.Places.{RegisterAt}
+use Rattle.numbers.specs.declared.starts.RegisterExtent.{RegisterExtent}
+use Rattle.numbers.specs.RegisterAt.{RegisterAt}
 use Rattle.numbers.proofs.Placing.{needed-few}
 use Rattle.vet.specs.declared.Entry.{Entry}
 use Rattle.vet.specs.Vetted.{vetted}
@@ -84,7 +84,7 @@ module _ {st ws : List ℕ} {codes : Bool} {r : ℕ} {e : Entry} (by : ByRegiste
   pub register-in : e .refusal ≡ 0 → {s : Settings} → s ≡ settings-of st → r < s .registers
   register-in z read = rw read (by .there z)
 
-  pub span-there : e .refusal ≡ 0 → {s : Settings} → s ≡ settings-of st → {p : Place} → RegisterAt s r p
+  pub span-there : e .refusal ≡ 0 → {s : Settings} → s ≡ settings-of st → {p : RegisterExtent} → RegisterAt s r p
       → AtRegister st ws codes r (record { refusal = 0; u = p .u; start = p .start; end = p .end })
   span-there z read {p} at =
       let q = rw read at at in

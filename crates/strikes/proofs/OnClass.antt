@@ -20,31 +20,31 @@ use Rattle.model.specs.Class.{pick, class-at, class-of, class-fits, deliverer-f
 use Rattle.model.specs.Book.{Held, entries-of}
 use Rattle.model.specs.BookWords.{class-form}
 use Rattle.model.specs.Words.{State, class-start}
-use Rattle.model.specs.Calls.{Call, HeldBy, ClassTotals, codes-fit, class-totals, step, reply, held-in, is-open, no-such-register, late}
+use Rattle.model.specs.Calls.{Call, HeldBy, ClassTotals, codes-fit, class-totals, step, reply, held-in, is-open, no-such-register, own-refusals}
 use Rattle.model.proofs.Parts.{class-part}
 use Rattle.model.proofs.Bounds.{fit-shares}
 use Rattle.book.specs.Sums.{totals-of}
 use Rattle.book.specs.ClassRules.{ClassIs, ClassReads}
 use Rattle.book.proofs.Finding.{class-is}
-use Rattle.strikes.specs.declared.ClassSpan.{ClassSpan}
+use Rattle.strikes.specs.declared.ClassEntry.{ClassEntry}
 use Rattle.strikes.specs.Admitted.{vets}
 use Rattle.strikes.specs.Entries.{ClassAt, AtClass}
 use Rattle.strikes.proofs.Through.{Entered, lent, past-words, lent-part, seen-part, replied, refused-reply}
 use Rattle.strikes.proofs.Admitting.{OnBook, vets-pass, book-early, book-never}
 
 -- the class's words
-abbrev pub class-of-words : ClassSpan → List ℕ → List ℕ
+abbrev pub class-of-words : ClassEntry → List ℕ → List ℕ
 class-of-words p ws = midOf (p .start) (p .end - p .start) ws
 
 holds : (kind number : ℕ) → OnBook (HeldBy kind number)
-unfolding is-open no-such-register late
+unfolding is-open no-such-register own-refusals
 holds kind number = record { shut = refl; unnumbered = λ s. refl; never = λ s t. refl }
 
 totals : (c : ℕ) → OnBook (ClassTotals c)
-unfolding is-open no-such-register late
+unfolding is-open no-such-register own-refusals
 totals c = record { shut = refl; unnumbered = λ s. refl; never = λ s t. refl }
 
-module _ {st ws : List ℕ} {codes : Bool} {c : Class} {p : ClassSpan} (at : AtClass st ws codes c p) where
+module _ {st ws : List ℕ} {codes : Bool} {c : Class} {p : ClassEntry} (at : AtClass st ws codes c p) where
   class-refused : (p .refusal ≡ 0 → ⊥) → (call : Call) → OnBook call → codes ≡ codes-fit (settings-of st) call → Refused (p .refusal) ≡ reply st ws call
   class-refused h call on same = refused-reply st ws call _ (book-early st ws codes call on same _ (at .refusal) h) h .0
 
@@ -96,7 +96,7 @@ module _ {st ws : List ℕ} {codes : Bool} {c : Class} {p : ClassSpan} (at : AtC
         ∙ sym (says b (held-in s ws)) ∙ sym (replied st ws call (book-never st ws codes call on same passes))
 
 -- ---- a deliverer's entries, and a class's totals
-module _ {st ws : List ℕ} {codes : Bool} {c : Class} {p : ClassSpan} (at : AtClass st ws codes c p) (z : p .refusal ≡ 0) (who : Deliverer) (its : c ≡ class-of who) where
+module _ {st ws : List ℕ} {codes : Bool} {c : Class} {p : ClassEntry} (at : AtClass st ws codes c p) (z : p .refusal ≡ 0) (who : Deliverer) (its : c ≡ class-of who) where
   deliverer-at : AtClass st ws codes (class-of who) p
   deliverer-at = rw its at at
 
@@ -108,7 +108,7 @@ module _ {st ws : List ℕ} {codes : Bool} {c : Class} {p : ClassSpan} (at : AtC
   unfolding codes-fit step
   entries-told kind number same is reads = told-class deliverer-at z (HeldBy kind number) (holds kind number) same Entries (λ b t. rw (← is)) reads
 
-pub totals-told : {st ws : List ℕ} {codes : Bool} {c : Class} {p : ClassSpan} → AtClass st ws codes c p → p .refusal ≡ 0 → (n : ℕ) → codes ≡ class-fits n → c ≡ class-at n
+pub totals-told : {st ws : List ℕ} {codes : Bool} {c : Class} {p : ClassEntry} → AtClass st ws codes c p → p .refusal ≡ 0 → (n : ℕ) → codes ≡ class-fits n → c ≡ class-at n
     → {v : Totals} → ((b : Shares) (k : Class) → ClassReads b k (totals-of b) (class-of-words p ws) v)
     → Answered (v .entries) (v .holders) (v .units) (v .expired) ≡ reply st ws (ClassTotals n)
 unfolding codes-fit step class-totals

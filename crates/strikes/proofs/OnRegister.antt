@@ -13,25 +13,25 @@ use Rattle.model.specs.Settings.{settings-of, usable-at}
 use Rattle.model.specs.Register.{Register}
 use Rattle.model.specs.RegisterWords.{register-form}
 use Rattle.model.specs.Words.{State}
-use Rattle.model.specs.Calls.{Deed, On, never-late, late-deed, deed-fits, done-on, step, refused, reply, first-met, register-at, with-register, held-in}
+use Rattle.model.specs.Calls.{Deed, On, no-refusals, deed-refusals, deed-fits, done-on, step, refused, reply, first-met, register-at, with-register, held-in}
 use Rattle.model.proofs.Parts.{register-part}
-use Rattle.numbers.specs.Places.{RegisterAt}
+use Rattle.numbers.specs.RegisterAt.{RegisterAt}
 use Rattle.register.specs.Words.{RegisterWords, RegisterReads, RegisterTurns}
-use Rattle.strikes.specs.declared.RegisterSpan.{RegisterSpan}
+use Rattle.strikes.specs.declared.RegisterEntry.{RegisterEntry}
 use Rattle.strikes.specs.Calls.{Told}
 use Rattle.strikes.specs.Entries.{AtRegister}
 use Rattle.strikes.proofs.Through.{Entered, seen-part, replied, refused-reply, through-part}
-use Rattle.strikes.proofs.Admitting.{late-refusals, admits-pass, refused-early, refused-late}
+use Rattle.strikes.proofs.Admitting.{first-own, admits-pass, refused-early, refused-own}
 use Rattle.strikes.proofs.Placed.{register-lies}
 
 -- the register's words, and the words with others in their place
-abbrev pub part-of : RegisterSpan → List ℕ → List ℕ
+abbrev pub part-of : RegisterEntry → List ℕ → List ℕ
 part-of p ws = midOf (p .start) (p .end - p .start) ws
 
-abbrev pub put-at : RegisterSpan → List ℕ → List ℕ → List ℕ
+abbrev pub put-at : RegisterEntry → List ℕ → List ℕ → List ℕ
 put-at p ws last = putMid (p .start) (p .end - p .start) ws last
 
-module _ {st ws : List ℕ} {codes : Bool} {r : ℕ} {p : RegisterSpan} (at : AtRegister st ws codes r p) where
+module _ {st ws : List ℕ} {codes : Bool} {r : ℕ} {p : RegisterEntry} (at : AtRegister st ws codes r p) where
   -- one of the first four refusals
   pub told-refused : (p .refusal ≡ 0 → ⊥) → {deed : Deed} → codes ≡ deed-fits deed → Told st ws (On r deed) (Refused (p .refusal)) ws
   told-refused h {deed} same =
@@ -64,10 +64,10 @@ module _ {st ws : List ℕ} {codes : Bool} {r : ℕ} {p : RegisterSpan} (at : At
         seen-part s ws may-enter (register-at r) (register-part s r (place .below)) (p .start) (p .end) (place .start) ends t
 
     -- a deed that nothing else refuses
-    module _ (deed : Deed) (same : codes ≡ deed-fits deed) (never : (reg : Register) → late-deed reg deed ≡ never-late) where
+    module _ (deed : Deed) (same : codes ≡ deed-fits deed) (never : (reg : Register) → deed-refusals reg deed ≡ no-refusals) where
       none : refused st ws (On r deed) ≡ 0
-      unfolding late-refusals first-met
-      none = refused-late st ws codes r deed same (sym (at .refusal) ∙ z) ∙ ap late-refusals (never (register-at r (held-in (settings-of st) ws)))
+      unfolding first-own first-met
+      none = refused-own st ws codes r deed same (sym (at .refusal) ∙ z) ∙ ap first-own (never (register-at r (held-in (settings-of st) ws)))
 
       -- one that writes
       pub told-turned : {R : Type 0} {f : Register → Register} {out : Register → R} {last : List ℕ} {v : R} (answer : R → Answer)

@@ -14,7 +14,7 @@ use Rattle.runs.proofs.Parts.{Part}
 use Rattle.runs.proofs.Turns.{part-is}
 use Rattle.model.specs.Settings.{settings-of, words-needed}
 use Rattle.model.specs.Words.{State, Front, FrontOk, encode-front, state-form}
-use Rattle.model.specs.Calls.{Deed, Call, On, late-deed, deed-fits, done-on, step, refused, register-at, held-in, codes-fit}
+use Rattle.model.specs.Calls.{Deed, Call, On, deed-refusals, deed-fits, done-on, step, refused, register-at, held-in, codes-fit}
 use Rattle.model.proofs.Words.{state-exact, state-wide}
 use Rattle.model.proofs.Parts.{front-part, front-of, with-front}
 use Rattle.taking.specs.Words.{RunWords, StateTurns}
@@ -24,7 +24,7 @@ use Rattle.strikes.specs.Admitted.{vets}
 use Rattle.strikes.specs.Calls.{Told}
 use Rattle.strikes.specs.Entries.{ByBook, ByRegister}
 use Rattle.strikes.proofs.Through.{Entered, lent, past-words, lent-part, refused-reply, through-part}
-use Rattle.strikes.proofs.Admitting.{late-refusals, vets-pass, admits-pass, refused-early, refused-late, OnBook, book-early, book-never}
+use Rattle.strikes.proofs.Admitting.{first-own, vets-pass, admits-pass, refused-early, refused-own, OnBook, book-early, book-never}
 
 -- all of it is a part of itself
 whole-part : (s : Settings) → Part (state-form s) (state-form s) 0 (λ t. t) (λ t u. u)
@@ -97,11 +97,11 @@ module _ {st ws : List ℕ} {codes : Bool} {r : ℕ} {e : Entry} (by : ByRegiste
       register-there = rw read (by .there z)
 
     module _ (deed : Deed) (same : codes ≡ deed-fits deed) where
-      pub refused-now : refused st ws (On r deed) ≡ late-refusals (late-deed (register-at r (held-in (settings-of st) ws)) deed)
-      refused-now = refused-late st ws codes r deed same (sym (by .enters .refusal) ∙ z)
+      pub refused-now : refused st ws (On r deed) ≡ first-own (deed-refusals (register-at r (held-in (settings-of st) ws)) deed)
+      refused-now = refused-own st ws codes r deed same (sym (by .enters .refusal) ∙ z)
 
       -- a deed that nothing else refuses
-      pub told-whole : {s : Settings} → s ≡ settings-of st → ((t : State) → late-refusals (late-deed (register-at r t) deed) ≡ 0)
+      pub told-whole : {s : Settings} → s ≡ settings-of st → ((t : State) → first-own (deed-refusals (register-at r t) deed) ≡ 0)
           → {R : Type 0} {f : State → State} {out : State → R} {last : List ℕ} {v : R} (answer : R → Answer)
           → ((t : State) → done-on s r deed t .answer ≡ answer (out t)) → ((t : State) → done-on s r deed t .state ≡ f t)
           → StateTurns s f out (run-of e ws) last v → Told st ws (On r deed) (answer v) (put-run e ws last)

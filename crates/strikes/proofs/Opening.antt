@@ -15,7 +15,7 @@ use Rattle.model.specs.declared.Settings.{Settings}
 use Rattle.model.specs.Settings.{settings-of, settings-fit, limits-of, words-needed}
 use Rattle.model.specs.Words.{state-form}
 use Rattle.model.specs.Calls.{Open, first-met, settings-words-fit, limits-words-fit, starts-fit, codes-fit, unfit, is-open, too-short, unsound}
-use Rattle.model.specs.Calls.{no-such-register, late, step, refused}
+use Rattle.model.specs.Calls.{no-such-register, own-refusals, step, refused}
 use Rattle.opening.specs.Opened.{opened-with}
 use Rattle.opening.proofs.Laid.{opened-is}
 use Rattle.vet.specs.declared.Entry.{Entry}
@@ -77,7 +77,7 @@ module _ {st : List ℕ} {e : Entry} (enters : Enters st (unfit-alone st) e) (li
 -- ---- the call
 module _ {st limits starts : List ℕ} {e : Entry} (ws : List ℕ) (by : ByOpening st limits starts (length ws) e) where
   refused-is : refused st ws (Open limits starts) ≡ e .refusal
-  unfolding refused opens unfit codes-fit too-short unsound is-open no-such-register late first-met
+  unfolding refused opens unfit codes-fit too-short unsound is-open no-such-register own-refusals first-met
   refused-is = sym (by .refusal)
 
   pub open-refused : (e .refusal ≡ 0 → ⊥) → Told st ws (Open limits starts) (Refused (e .refusal)) ws

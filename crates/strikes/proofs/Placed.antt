@@ -14,13 +14,13 @@ use Rattle.model.specs.RegisterWords.{register-form}
 use Rattle.model.specs.Words.{register-width, register-start}
 use Rattle.model.proofs.Parts.{register-part}
 use Rattle.model.proofs.Bounds.{fit-usable}
-use Rattle.numbers.specs.declared.starts.Place.{Place}
-use Rattle.numbers.specs.Places.{RegisterAt}
+use Rattle.numbers.specs.declared.starts.RegisterExtent.{RegisterExtent}
+use Rattle.numbers.specs.RegisterAt.{RegisterAt}
 use Rattle.register.specs.Words.{RegisterWords}
 use Rattle.strikes.proofs.Through.{Entered, lent, past-words, lent-part}
 
 -- the words at a register's place are those of a well-formed register
-pub register-lies : (s : Settings) (ws : List ℕ) (r : ℕ) (p : Place) → Entered s ws → r < s .registers → RegisterAt s r p
+pub register-lies : (s : Settings) (ws : List ℕ) (r : ℕ) (p : RegisterExtent) → Entered s ws → r < s .registers → RegisterAt s r p
     → RegisterWords (p .u) (midOf (p .start) (p .end - p .start) ws)
 register-lies s ws r p e h at =
     let k = length (past-words s ws) in

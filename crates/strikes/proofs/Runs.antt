@@ -7,7 +7,7 @@ use lib.Dec.{eqb}
 use lib.ListN.{length, take, drop}
 use borrow.Author.Tests.{eqb-true}
 use Rattle.runs.proofs.Cases.{both-true}
-use Rattle.runs.specs.Turns.{Turns}
+use Rattle.runs.specs.Turns.{Turns, silent}
 use Rattle.model.specs.declared.Answer.the-variants.{Done, Said}
 use Rattle.model.specs.declared.Limits.{Limits}
 use Rattle.model.specs.declared.Settings.{Settings}
@@ -17,9 +17,8 @@ use Rattle.model.specs.Book.{closed-book, with-limits}
 use Rattle.model.specs.Judge.{Ask}
 use Rattle.model.specs.Words.{State, FrontOk, encode-front}
 use Rattle.model.specs.Calls.{Asking, Manner, taken, taken-batch, On, Ticket, Expire, SetLimits, Close, deed-fits, codes-fit, limits-words-fit}
-use Rattle.model.specs.Calls.{late-deed, first-met, done-on, ask-of, asked, after-taken, step, is-open, no-such-register, late}
+use Rattle.model.specs.Calls.{deed-refusals, first-met, done-on, ask-of, asked, after-taken, step, is-open, no-such-register, own-refusals}
 use Rattle.book.specs.FrontRules.{limited, shut}
-use Rattle.expiring.specs.Rules.{silent}
 use Rattle.register.specs.Rules.{asked-by}
 use Rattle.taking.specs.Rules.{take-says, take-batch-says}
 use Rattle.taking.specs.Words.{StateTurns}
@@ -27,7 +26,7 @@ use Rattle.vet.specs.declared.Entry.{Entry}
 use Rattle.strikes.specs.declared.Ticket.{Ticket as Handed}
 use Rattle.strikes.specs.Calls.{Told}
 use Rattle.strikes.specs.Entries.{ByBook, ByRegister, Asks}
-use Rattle.strikes.proofs.Admitting.{late-refusals, OnBook}
+use Rattle.strikes.proofs.Admitting.{first-own, OnBook}
 use Rattle.strikes.proofs.OnWhole.{run-of, put-run, codes-there, told-whole, told-run, told-front}
 
 -- ---- a ticket that is taken
@@ -40,7 +39,7 @@ Takes m out = (st ws : List ℕ) (r : ℕ) (e : Entry) (s : Settings) (a : Askin
 
 takes : (m : Manner) (out : Settings → ℕ → Ask → State → Verdict)
     → ((s : Settings) (r : ℕ) (a : Ask) (x : State) → asked s r m a x .answer ≡ Said (out s r a x)) → Takes m out
-unfolding deed-fits late-deed late-refusals first-met done-on
+unfolding deed-fits deed-refusals first-own first-met done-on
 takes m out is st ws r e s a t last v by z read asks turn =
     told-whole by z (Ticket m a) (asks .listed) read (λ x. refl) Said (λ x. rw (asks .ask) (is s r (ask-of a) x)) (λ x. rw (asks .ask)) turn
 
@@ -54,15 +53,15 @@ was-taken-batch = takes taken-batch take-batch-says (λ s r a x. refl)
 
 -- ---- calls on the book
 pub closes : OnBook Close
-unfolding is-open no-such-register late
+unfolding is-open no-such-register own-refusals
 closes = record { shut = refl; unnumbered = λ s. refl; never = λ s t. refl }
 
 pub expires : (ms : ℕ) → OnBook (Expire ms)
-unfolding is-open no-such-register late
+unfolding is-open no-such-register own-refusals
 expires ms = record { shut = refl; unnumbered = λ s. refl; never = λ s t. refl }
 
 pub limits : (ls : List ℕ) → OnBook (SetLimits ls)
-unfolding is-open no-such-register late
+unfolding is-open no-such-register own-refusals
 limits ls = record { shut = refl; unnumbered = λ s. refl; never = λ s t. refl }
 
 module _ {st ws : List ℕ} {e : Entry} (by : ByBook st ws true e) (z : e .refusal ≡ 0) {last : List ℕ} where
@@ -75,7 +74,7 @@ module _ {st ws : List ℕ} {e : Entry} (by : ByBook st ws true e) (z : e .refus
   unfolding codes-fit step
   was-expired read {ms} turn = told-run by z (expires ms) refl read (λ v. Done) (λ t. refl) (λ t. refl) turn
 
--- limits that are handed in
+-- limits that the call brings
 module _ {st ws : List ℕ} {codes : Bool} {e : Entry} (by : ByBook st ws codes e) (z : e .refusal ≡ 0) (ls : List ℕ) (same : codes ≡ limits-words-fit ls) where
   pub limits-long : length ls ≡ 5
   unfolding limits-words-fit

@@ -36,5 +36,5 @@ six-then-five pending short = first-met (refusal 6 pending ∷ refusal 5 short �
 unfoldable pub dump-refusal : ℕ → Register → ℕ
 dump-refusal room reg = six-then-five (reg .pending) (ltb room (length (dump-bytes reg)))
 
-pub record DumpLate (u : Usable) (room : ℕ) (ws : List ℕ) (n : ℕ) : Type 0 where
+pub record DumpTried (u : Usable) (room : ℕ) (ws : List ℕ) (n : ℕ) : Type 0 where
   pub reads : RegisterReads u (dump-refusal room) ws n

@@ -7,7 +7,7 @@ use Rattle.model.specs.declared.Answer.{Answer}
 use Rattle.model.specs.declared.Answer.the-variants.{Whole, Partly}
 use Rattle.model.specs.Calls.{Manner, Ticket, Call, On, reply, after, output-after}
 
--- a ticket on a register, with every number as it is handed in
+-- a ticket on a register, with every number as the host passes it
 abbrev pub asking : Manner → ℕ → ℕ → ℕ → ℕ → ℕ → ℕ → ℕ → Call
 asking m register fp stamp reading flag kind number =
     On register (Ticket m (record { fp = fp; stamp = stamp; ms = reading; flag = flag; kind = kind; number = number }))

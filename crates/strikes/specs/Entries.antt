@@ -11,12 +11,12 @@ use Rattle.model.specs.Codes.{flag-fits}
 use Rattle.model.specs.Words.{class-start, class-width}
 use Rattle.model.specs.Calls.{Asking, ask-of}
 use Rattle.model.specs.Most.{words-most}
-use Rattle.numbers.specs.Places.{RegisterAt}
+use Rattle.numbers.specs.RegisterAt.{RegisterAt}
 use Rattle.register.specs.Rules.{asked-by}
 use Rattle.vet.specs.declared.Entry.{Entry}
 use Rattle.vet.specs.Entries.{Ready, EntersWithin}
-use Rattle.strikes.specs.declared.RegisterSpan.{RegisterSpan}
-use Rattle.strikes.specs.declared.ClassSpan.{ClassSpan}
+use Rattle.strikes.specs.declared.RegisterEntry.{RegisterEntry}
+use Rattle.strikes.specs.declared.ClassEntry.{ClassEntry}
 use Rattle.strikes.specs.declared.Ticket.{Ticket}
 use Rattle.strikes.specs.Admitted.{vets, admits, opens}
 
@@ -34,7 +34,7 @@ pub record ByOpening (st limits starts : List ℕ) (n : ℕ) (e : Entry) : Type 
   pub within : e .need ≤ n
 
 -- a register's part
-pub record AtRegister (st ws : List ℕ) (codes : Bool) (r : ℕ) (p : RegisterSpan) : Type 0 where
+pub record AtRegister (st ws : List ℕ) (codes : Bool) (r : ℕ) (p : RegisterEntry) : Type 0 where
   pub refusal : p .refusal ≡ admits st ws codes r
   pub place : p .refusal ≡ 0 → RegisterAt (settings-of st) r (record { u = p .u; start = p .start; end = p .end })
   pub order : p .start ≤ p .end
@@ -43,19 +43,19 @@ pub record AtRegister (st ws : List ℕ) (codes : Bool) (r : ℕ) (p : RegisterS
   pub few : p .end ≤ words-most
 
 -- a class's part
-pub record ClassAt (st : List ℕ) (c : Class) (p : ClassSpan) : Type 0 where
+pub record ClassAt (st : List ℕ) (c : Class) (p : ClassEntry) : Type 0 where
   pub shares : p .shares ≡ settings-of st .shares
   pub start : p .start ≡ class-start (settings-of st) c
   pub end : p .end ≡ p .start + class-width (settings-of st .shares)
 
-pub record AtClass (st ws : List ℕ) (codes : Bool) (c : Class) (p : ClassSpan) : Type 0 where
+pub record AtClass (st ws : List ℕ) (codes : Bool) (c : Class) (p : ClassEntry) : Type 0 where
   pub refusal : p .refusal ≡ vets st ws codes
   pub place : p .refusal ≡ 0 → ClassAt st c p
   pub order : p .start ≤ p .end
   pub within : p .end ≤ length ws
   pub few : p .end ≤ words-most
 
--- a ticket as it is handed in
+-- a ticket as the host passes it
 pub record Asks (a : Asking) (t : Ticket) : Type 0 where
   pub listed : t .listed ≡ (flag-fits (a .flag) && deliverer-fits (a .kind) (a .number))
   pub ask : asked-by (t .ask) ≡ ask-of a

@@ -17,12 +17,12 @@ ghost use Prim.Native.Nat.{_*_, _≤_};
 ghost use lib.ListN.{length};
 ghost use Rattle.model.specs.Calls.{judged, judged-batch, taken, taken-batch, On, Open, Close, Expire, SetLimits, HeldBy, ClassTotals, Begin, Sweep, ContainsHash, DumpTo, Restore, Resume, Floor, Pending, SweptBucket, yes-no, reply};
 ghost use Rattle.register.specs.Words.{RegisterWords};
-ghost use Rattle.strikes.specs.Admitted.{six-then-five, DumpLate};
+ghost use Rattle.strikes.specs.Admitted.{six-then-five, DumpTried};
 ghost use Rattle.strikes.specs.Calls.{asking, Told, ToldBytes, restore-answer};
 ghost use Rattle.strikes.specs.Entries.{ByBook, ByRegister, ByOpening, AtRegister, AtClass, Asks};
 
 // Where a call on one register finds its words: the first refusal that was met, or 0, and then the register's settings and part.
-pub struct RegisterSpan {
+pub struct RegisterEntry {
     pub refusal: u64,
     pub u: Usable,
     pub start: usize,
@@ -36,7 +36,7 @@ pub struct Ticket {
 }
 
 // The same of a call that reads one class of the share book.
-pub struct ClassSpan {
+pub struct ClassEntry {
     pub refusal: u64,
     pub shares: Shares,
     pub start: usize,
@@ -69,21 +69,21 @@ fn admit(settings: &[u64], words: &[u64], codes: bool, register: u64) -> Entry
 }
 
 // Where that call finds its register.
-fn register_span(settings: &[u64], words: &[u64], codes: bool, register: u64) -> RegisterSpan
+fn enter_register(settings: &[u64], words: &[u64], codes: bool, register: u64) -> RegisterEntry
     ensures { λ p. ⌜ AtRegister (now (settings .entry)) (now (words .entry)) codes register p ⌝ }
 {
     let e = admit(settings, words, codes, register);
     if e.refusal != 0 {
-        return RegisterSpan {
+        return RegisterEntry {
             refusal: e.refusal,
             u: bounds::no_usable(),
             start: 0,
             end: 0,
         };
     }
-    let at = starts::place_of(bounds::settings_of(settings), register as usize);
+    let at = starts::register_extent(bounds::settings_of(settings), register as usize);
     let u = at.u;
-    RegisterSpan {
+    RegisterEntry {
         refusal: 0,
         u: u,
         start: at.start,
@@ -92,7 +92,7 @@ fn register_span(settings: &[u64], words: &[u64], codes: bool, register: u64) ->
 }
 
 // Where a call on the book finds a class.
-fn class_span(settings: &[u64], words: &[u64], codes: bool, class: Class) -> ClassSpan
+fn enter_class(settings: &[u64], words: &[u64], codes: bool, class: Class) -> ClassEntry
     ensures { λ p. ⌜ AtClass (now (settings .entry)) (now (words .entry)) codes class p ⌝ }
 {
     let e = enter(settings, words, codes);
@@ -103,7 +103,7 @@ fn class_span(settings: &[u64], words: &[u64], codes: bool, class: Class) -> Cla
             feeder: 0,
             peer: 0,
         };
-        return ClassSpan {
+        return ClassEntry {
             refusal: e.refusal,
             shares: none,
             start: 0,
@@ -114,7 +114,7 @@ fn class_span(settings: &[u64], words: &[u64], codes: bool, class: Class) -> Cla
     let shares = s.shares;
     let start = starts::class_start(s, class);
     let width = starts::class_width(shares);
-    ClassSpan {
+    ClassEntry {
         refusal: 0,
         shares: shares,
         start: start,
@@ -122,7 +122,7 @@ fn class_span(settings: &[u64], words: &[u64], codes: bool, class: Class) -> Cla
     }
 }
 
-// A ticket as it is handed in: whether its codes are listed, and what it asks.
+// A ticket as the host passes it: whether its codes are listed, and what it asks.
 fn ticket_of(fp: u64, stamp: u64, reading: u64, flag: u64, kind: u64, number: u64) -> Ticket
     ensures { λ t. ⌜ Asks (record { fp = fp; stamp = stamp; ms = reading; flag = flag; kind = kind; number = number }) t ⌝ }
 {
@@ -155,7 +155,7 @@ pub fn judge(
     ensures { λ a. ⌜ Told (now (settings .entry)) (now (words .entry)) (asking judged register fp stamp reading flag kind number) a (now (words .exit)) ⌝ }
 {
     let ticket = ticket_of(fp, stamp, reading, flag, kind, number);
-    let at = register_span(settings, words, ticket.listed, register);
+    let at = enter_register(settings, words, ticket.listed, register);
     if at.refusal != 0 {
         return Answer::Refused(at.refusal);
     }
@@ -179,7 +179,7 @@ pub fn judge_batch(
     ensures { λ a. ⌜ Told (now (settings .entry)) (now (words .entry)) (asking judged-batch register fp stamp reading flag kind number) a (now (words .exit)) ⌝ }
 {
     let ticket = ticket_of(fp, stamp, reading, flag, kind, number);
-    let at = register_span(settings, words, ticket.listed, register);
+    let at = enter_register(settings, words, ticket.listed, register);
     if at.refusal != 0 {
         return Answer::Refused(at.refusal);
     }
@@ -192,7 +192,7 @@ pub fn judge_batch(
 pub fn begin(settings: &[u64], words: &mut [u64], register: u64, number: u64) -> Answer
     ensures { λ a. ⌜ Told (now (settings .entry)) (now (words .entry)) (On register (Begin number)) a (now (words .exit)) ⌝ }
 {
-    let at = register_span(settings, words, true, register);
+    let at = enter_register(settings, words, true, register);
     if at.refusal != 0 {
         return Answer::Refused(at.refusal);
     }
@@ -205,7 +205,7 @@ pub fn begin(settings: &[u64], words: &mut [u64], register: u64, number: u64) ->
 pub fn sweep(settings: &[u64], words: &mut [u64], register: u64, reading: u64) -> Answer
     ensures { λ a. ⌜ Told (now (settings .entry)) (now (words .entry)) (On register (Sweep reading)) a (now (words .exit)) ⌝ }
 {
-    let at = register_span(settings, words, true, register);
+    let at = enter_register(settings, words, true, register);
     if at.refusal != 0 {
         return Answer::Refused(at.refusal);
     }
@@ -228,7 +228,7 @@ fn yes_or_no(yes: bool) -> Answer
 pub fn contains_hash(settings: &[u64], words: &[u64], register: u64, fp: u64) -> Answer
     ensures { λ a. ⌜ a ≡ reply (now (settings .entry)) (now (words .entry)) (On register (ContainsHash fp)) ⌝ }
 {
-    let at = register_span(settings, words, true, register);
+    let at = enter_register(settings, words, true, register);
     if at.refusal != 0 {
         return Answer::Refused(at.refusal);
     }
@@ -241,7 +241,7 @@ pub fn contains_hash(settings: &[u64], words: &[u64], register: u64, fp: u64) ->
 pub fn floor(settings: &[u64], words: &[u64], register: u64) -> Answer
     ensures { λ a. ⌜ a ≡ reply (now (settings .entry)) (now (words .entry)) (On register Floor) ⌝ }
 {
-    let at = register_span(settings, words, true, register);
+    let at = enter_register(settings, words, true, register);
     if at.refusal != 0 {
         return Answer::Refused(at.refusal);
     }
@@ -254,7 +254,7 @@ pub fn floor(settings: &[u64], words: &[u64], register: u64) -> Answer
 pub fn pending(settings: &[u64], words: &[u64], register: u64) -> Answer
     ensures { λ a. ⌜ a ≡ reply (now (settings .entry)) (now (words .entry)) (On register Pending) ⌝ }
 {
-    let at = register_span(settings, words, true, register);
+    let at = enter_register(settings, words, true, register);
     if at.refusal != 0 {
         return Answer::Refused(at.refusal);
     }
@@ -267,7 +267,7 @@ pub fn pending(settings: &[u64], words: &[u64], register: u64) -> Answer
 pub fn swept(settings: &[u64], words: &[u64], register: u64) -> Answer
     ensures { λ a. ⌜ a ≡ reply (now (settings .entry)) (now (words .entry)) (On register SweptBucket) ⌝ }
 {
-    let at = register_span(settings, words, true, register);
+    let at = enter_register(settings, words, true, register);
     if at.refusal != 0 {
         return Answer::Refused(at.refusal);
     }
@@ -403,7 +403,7 @@ pub fn held(settings: &[u64], words: &[u64], kind: u64, number: u64) -> Answer
 {
     let listed = codes::deliverer_fits(kind, number);
     let who = codes::deliverer_of(kind, number);
-    let at = class_span(settings, words, listed, codes::class_of(who));
+    let at = enter_class(settings, words, listed, codes::class_of(who));
     if at.refusal != 0 {
         return Answer::Refused(at.refusal);
     }
@@ -413,11 +413,11 @@ pub fn held(settings: &[u64], words: &[u64], kind: u64, number: u64) -> Answer
 }
 
 // A class's entries, holders, units and expired second.
-pub fn totals(settings: &[u64], words: &[u64], class: u64) -> Answer
+pub fn class_totals(settings: &[u64], words: &[u64], class: u64) -> Answer
     ensures { λ a. ⌜ a ≡ reply (now (settings .entry)) (now (words .entry)) (ClassTotals class) ⌝ }
 {
     let listed = codes::class_fits(class);
-    let at = class_span(settings, words, listed, codes::class_at(class));
+    let at = enter_class(settings, words, listed, codes::class_at(class));
     if at.refusal != 0 {
         return Answer::Refused(at.refusal);
     }
@@ -443,10 +443,10 @@ fn six_or_five(pending: bool, short: bool) -> u64
 // 0, or the first of the refusals of a dump that come after 4.
 fn dump_refused(part: &[u64], u: Usable, room: usize) -> u64
     requires { ⌜ RegisterWords u (now part) ⌝ }
-    ensures { λ n. ⌜ DumpLate u room (now (part .entry)) n ⌝ }
+    ensures { λ n. ⌜ DumpTried u room (now (part .entry)) n ⌝ }
 {
     let pending = register::is_pending(part);
-    let long = dumping::dump_length(part, u);
+    let long = dump::dump_length(part, u);
     six_or_five(pending, room < long)
 }
 
@@ -454,17 +454,17 @@ fn dump_refused(part: &[u64], u: Usable, room: usize) -> u64
 pub fn dump(settings: &[u64], words: &[u64], register: u64, out: &mut [u8]) -> Answer
     ensures { λ a. ⌜ ToldBytes (now (settings .entry)) (now (words .entry)) (On register (DumpTo (now (out .entry)))) a (now (out .exit)) ⌝ }
 {
-    let at = register_span(settings, words, true, register);
+    let at = enter_register(settings, words, true, register);
     if at.refusal != 0 {
         return Answer::Refused(at.refusal);
     }
     let a = at.start;
     let e = at.end;
-    let late = dump_refused(&words[a..e], at.u, out.len());
-    if late != 0 {
-        return Answer::Refused(late);
+    let refusal = dump_refused(&words[a..e], at.u, out.len());
+    if refusal != 0 {
+        return Answer::Refused(refusal);
     }
-    let long = dumping::dump(out, &words[a..e], at.u);
+    let long = dump::dump(out, &words[a..e], at.u);
     Answer::Dumped(long as u64)
 }
 

@@ -370,7 +370,7 @@ pub extern "C" fn strikes_class(
 ) -> u64
     ensures { λ n. ⌜ Read (now (settings .entry)) (now (words .entry)) (ClassTotals class) n (now (entries .entry) ∷ now (holders .entry) ∷ now (units .entry) ∷ now (expired .entry) ∷ []) (now (entries .exit) ∷ now (holders .exit) ∷ now (units .exit) ∷ now (expired .exit) ∷ []) ⌝ }
 {
-    let sent = send(strikes::totals(settings, words, class));
+    let sent = send(strikes::class_totals(settings, words, class));
     *entries = sent.first_or(*entries);
     *holders = sent.second_or(*holders);
     *units = sent.third_or(*units);

@@ -3,6 +3,7 @@ use Prim.Native.Nat.{ℕ, _-_, _<_}
 use mathlib.Core.Path.{_≡_, sym, subst}
 use mathlib.Core.List.{List}
 use borrow.Rule.Slice.PartMut.{midOf, putMid}
+use Rattle.runs.specs.Turns.{silent}
 use Rattle.model.specs.declared.Class.{Class}
 use Rattle.model.specs.declared.Room.{Room}
 use Rattle.model.specs.declared.Settings.{Settings}
@@ -10,20 +11,19 @@ use Rattle.model.specs.declared.Usable.{Usable}
 use Rattle.model.specs.declared.Verdict.{Verdict}
 use Rattle.model.specs.Settings.{usable-at}
 use Rattle.model.specs.Class.{class-of, pick}
-use Rattle.model.specs.Register.{strike, published}
+use Rattle.model.specs.Register.{strike}
 use Rattle.model.specs.Judge.{Ask, make-room}
 use Rattle.model.specs.Calls.{register-at, with-register}
-use Rattle.numbers.specs.declared.starts.Place.{Place}
-use Rattle.numbers.specs.Places.{RegisterAt}
+use Rattle.numbers.specs.declared.starts.RegisterExtent.{RegisterExtent}
+use Rattle.numbers.specs.RegisterAt.{RegisterAt}
 use Rattle.register.specs.Rules.{judged-register, judge-says, batch-register, batch-says}
-use Rattle.register.specs.Rules.{silent as silent-register}
 use Rattle.register.specs.Words.{RegisterReads, RegisterTurns}
 use Rattle.taking.specs.declared.tickets.Ticket.{Ticket}
-use Rattle.taking.specs.Rules.{silent, room-for, struck-by, judged-state, judged-says, batch-judged-state, batch-judged-says}
+use Rattle.taking.specs.Rules.{room-for, struck-by, judged-state, judged-says, batch-judged-state, batch-judged-says}
 use Rattle.taking.specs.Words.{StateReads, StateTurns, RunWords}
 use Rattle.taking.proofs.InRun.{register-reads, register-turns, register-known}
 
-module _ (s : Settings) (r : ℕ) (h : r < s .registers) (p : Place) (l : RegisterAt s r p) (ws : List ℕ) where
+module _ (s : Settings) (r : ℕ) (h : r < s .registers) (p : RegisterExtent) (l : RegisterAt s r p) (ws : List ℕ) where
   abbrev part : List ℕ
   part = midOf (p .start) (p .end - p .start) ws
 
@@ -42,11 +42,6 @@ module _ (s : Settings) (r : ℕ) (h : r < s .registers) (p : Place) (l : Regist
       subst (λ (u : Usable). StateTurns s (λ x. with-register r (batch-register u a (register-at r x)) x) (λ x. batch-says u a (register-at r x)) ws (whole last) v)
       (l .usable) (register-turns s r h p l t)
 
-  pub published-reads : (v : ℕ) → ((u : Usable) → RegisterReads u (λ reg. published u (reg .swept)) part v)
-      → StateReads s (λ t. published (usable-at s r) (register-at r t .swept)) ws v
-  published-reads v t =
-      subst (λ (u : Usable). StateReads s (λ x. published u (register-at r x .swept)) ws v) (l .usable) (register-reads s r h p l (t (p .u)))
-
   module _ (k : Ticket) (c : Class) (class : c ≡ class-of (k .who)) where
     abbrev Fits : Usable → Class → Room → Type 0
     Fits u d m = StateReads s (λ t. make-room (u .slots) (k .bucket .0) (k .fp) (pick d (register-at r t .rings))) ws m
@@ -61,7 +56,7 @@ module _ (s : Settings) (r : ℕ) (h : r < s .registers) (p : Place) (l : Regist
         register-known s r h p l (λ reg. make-room (p .u .slots) (k .bucket .0) (k .fp) (pick c (reg .rings))) ws m w
         (subst (λ (d : Class). Fits (p .u) d m) (sym class) (subst (λ (u : Usable). Fits u (class-of (k .who)) m) (sym (l .usable)) t))
 
-    pub strike-turns : (last : List ℕ) → RegisterTurns (p .u) (strike c (k .bucket .0) (k .fp) (k .stamp)) silent-register part last (tt {0})
+    pub strike-turns : (last : List ℕ) → RegisterTurns (p .u) (strike c (k .bucket .0) (k .fp) (k .stamp)) silent part last (tt {0})
         → StateTurns s (struck-by r k) silent ws (whole last) (tt {0})
     strike-turns last t =
         subst (λ (d : Class). StateTurns s (λ x. with-register r (strike d (k .bucket .0) (k .fp) (k .stamp) (register-at r x)) x) silent ws (whole last) (tt {0}))

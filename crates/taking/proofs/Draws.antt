@@ -4,7 +4,7 @@ use mathlib.Core.Path.{_≡_, refl, sym, ap, _∙_}
 use mathlib.Core.Bool.{Bool, true}
 use mathlib.Core.List.{List}
 use borrow.Rule.Slice.PartMut.{midOf, putMid}
-use Rattle.runs.specs.Turns.{Reads}
+use Rattle.runs.specs.Turns.{Reads, silent}
 use Rattle.runs.proofs.Turns.{part-reads}
 use Rattle.model.specs.declared.Deliverer.{Deliverer}
 use Rattle.model.specs.declared.Draw.{Draw}
@@ -24,7 +24,7 @@ use Rattle.book.specs.ClassRules.{ClassIs, ClassReads, ClassTurns, spot-of, Fou
 use Rattle.book.proofs.Entering.{found-of, roomy-of}
 use Rattle.taking.specs.declared.shares.Share.{Share}
 use Rattle.taking.specs.declared.tickets.Ticket.{Ticket}
-use Rattle.taking.specs.Rules.{silent, Proper, share-in, share-for, Granted, drawn-by}
+use Rattle.taking.specs.Rules.{Proper, share-in, share-for, Granted, drawn-by}
 use Rattle.taking.specs.Words.{StateReads, StateTurns, RunWords}
 use Rattle.taking.proofs.InRun.{class-asks, class-reads, class-turns, class-known, run-words}
 

@@ -24,8 +24,8 @@ use Rattle.model.proofs.Words.{ring-exact, state-exact, state-wide}
 use Rattle.model.proofs.BookWords.{class-exact}
 use Rattle.model.proofs.Parts.{with-class, class-part, register-part}
 use Rattle.model.proofs.Bounds.{fit-shares, fit-usable}
-use Rattle.numbers.specs.declared.starts.Place.{Place}
-use Rattle.numbers.specs.Places.{RegisterAt}
+use Rattle.numbers.specs.declared.starts.RegisterExtent.{RegisterExtent}
+use Rattle.numbers.specs.RegisterAt.{RegisterAt}
 use Rattle.model.proofs.SoundnessKept.{register-in, with-register-ok}
 use Rattle.model.proofs.Judging.{judge-ok}
 use Rattle.model.proofs.RegisterWords.{register-exact}
@@ -61,7 +61,7 @@ module _ (s : Settings) where
       record { fit = w .fit; long = k; least = omega arith; is = record { value = t; ok = ok; words = is } }
 
   -- ---- a register
-  module _ (r : ℕ) (h : r < s .registers) (p : Place) (l : RegisterAt s r p) where
+  module _ (r : ℕ) (h : r < s .registers) (p : RegisterExtent) (l : RegisterAt s r p) where
     ends : p .end ≡ p .start + register-form (usable-at s r) .wide
     ends = let e = l .end in omega arith
 

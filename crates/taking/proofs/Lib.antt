@@ -2,4 +2,3 @@ pub mod InRun
 pub mod AtRegister
 pub mod Draws
 pub mod Taking
-pub mod LeastOf

@@ -7,6 +7,7 @@ use mathlib.Core.Logic.{inl, inr}
 use native.Mathlib.Omega.{arith}
 use types.Run.{OneOf}
 use denote.Enum.Declared.{tagOf}
+use Rattle.runs.specs.Turns.{silent}
 use Rattle.model.proofs.Room.{the-type}
 use lib.Seq.{getD-set-same, set-getD, set-set}
 use Rattle.runs.proofs.Cases.{by-test, no}
@@ -29,7 +30,8 @@ use Rattle.model.proofs.Judging.{judge-ok}
 use Rattle.book.specs.declared.Spot.{Spot}
 use Rattle.taking.specs.declared.shares.Share.{Share}
 use Rattle.taking.specs.declared.tickets.Ticket.{Ticket}
-use Rattle.taking.specs.Rules.{silent, Proper, Suits, Granted, share-for, drawn-by, room-for, struck-by, room-verdict, room-state, taken-room, room-says, taken-share, share-says, left, rest-of, take-says, take-batch-says, judged-state, judged-says, batch-judged-state, batch-judged-says}
+use Rattle.taking.specs.Rules.{Proper, Suits, Granted, share-for, drawn-by, room-for, struck-by, room-verdict, room-state, taken-room, room-says, taken-share}
+use Rattle.taking.specs.Rules.{share-says, left, rest-of, take-says, take-batch-says, judged-state, judged-says, batch-judged-state, batch-judged-says}
 use Rattle.taking.specs.Words.{StateReads, StateTurns, RunWords}
 use Rattle.taking.proofs.InRun.{known, known-turns}
 use Rattle.taking.proofs.Draws.{drawn-fine}

@@ -27,10 +27,6 @@ use Rattle.taking.specs.declared.shares.Share.{Share}
 use Rattle.taking.specs.declared.tickets.Ticket.{Ticket}
 use Rattle.taking.specs.Words.{StateReads}
 
--- no answer
-abbrev pub silent : State → Unit {0}
-silent t = tt
-
 -- ---- a ticket
 -- numbers that every ticket keeps to
 pub record Proper (k : Ticket) : Type 0 where

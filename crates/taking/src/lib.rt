@@ -1,23 +1,21 @@
 // Take: a ticket is judged, and a new one is drawn from its deliverer's share and struck, in the whole run of words that the
 // settings need: the front, the share book and the registers.
-mod least;
+mod on_register;
 mod shares;
 mod tickets;
-mod whole;
 
 use book::Spot;
-pub use least::least_published;
 use model::Room;
 use model::Settings;
 use model::Verdict;
 use numbers::starts;
-use numbers::starts::Place;
+use numbers::starts::RegisterExtent;
 use register::Ask;
 use tickets::Ticket;
 ghost use mathlib.Core.Path.{_≡_};
 ghost use Prim.Native.Nat.{_<_};
 ghost use Rattle.model.specs.Calls.{asked, taken, taken-batch};
-ghost use Rattle.numbers.specs.Places.{RegisterAt};
+ghost use Rattle.numbers.specs.RegisterAt.{RegisterAt};
 ghost use Rattle.register.specs.Rules.{asked-by};
 ghost use Rattle.taking.specs.Rules.{Proper, Granted, room-verdict, taken-room, room-says, taken-share, share-says, left, rest-of, take-says, take-batch-says};
 ghost use Rattle.taking.specs.Words.{RunWords, StateTurns};
@@ -38,25 +36,31 @@ fn take_room(
     run: &mut [u64],
     s: Settings,
     r: usize,
-    place: Place,
+    extent: RegisterExtent,
     ticket: Ticket,
     spot: Spot,
 ) -> Verdict
-    requires { ⌜ (RunWords s (now run) × RegisterAt s r place) × (Proper ticket × Granted s ticket (now run) spot) ⌝ }
+    requires { ⌜ (RunWords s (now run) × RegisterAt s r extent) × (Proper ticket × Granted s ticket (now run) spot) ⌝ }
     ensures { λ v. ⌜ StateTurns s (taken-room s r ticket) (room-says s r ticket) (now (run .entry)) (now (run .exit)) v ⌝ }
 {
-    let room = whole::room(run, s, r, place, ticket);
+    let room = on_register::room(run, s, r, extent, ticket);
     let Room::At(position) = room else {
         return refused_by(room);
     };
     shares::enter(run, s, ticket, spot);
-    whole::strike(run, s, r, place, ticket, position);
+    on_register::strike(run, s, r, extent, ticket, position);
     Verdict::New
 }
 
 // A ticket that was judged new: its share first.
-fn take_share(run: &mut [u64], s: Settings, r: usize, place: Place, ticket: Ticket) -> Verdict
-    requires { ⌜ (RunWords s (now run) × RegisterAt s r place) × Proper ticket ⌝ }
+fn take_share(
+    run: &mut [u64],
+    s: Settings,
+    r: usize,
+    extent: RegisterExtent,
+    ticket: Ticket,
+) -> Verdict
+    requires { ⌜ (RunWords s (now run) × RegisterAt s r extent) × Proper ticket ⌝ }
     ensures { λ v. ⌜ StateTurns s (taken-share s r ticket) (share-says s r ticket) (now (run .entry)) (now (run .exit)) v ⌝ }
 {
     let share = shares::look_up(run, s, ticket);
@@ -64,7 +68,7 @@ fn take_share(run: &mut [u64], s: Settings, r: usize, place: Place, ticket: Tick
         return Verdict::Full;
     }
     let spot = share.spot;
-    take_room(run, s, r, place, ticket, spot)
+    take_room(run, s, r, extent, ticket, spot)
 }
 
 // What is left of a take once the ticket is judged.
@@ -72,15 +76,15 @@ fn take_judged(
     run: &mut [u64],
     s: Settings,
     r: usize,
-    place: Place,
+    extent: RegisterExtent,
     ask: Ask,
     verdict: Verdict,
 ) -> Verdict
-    requires { ⌜ RunWords s (now run) × RegisterAt s r place ⌝ }
+    requires { ⌜ RunWords s (now run) × RegisterAt s r extent ⌝ }
     ensures { λ v. ⌜ StateTurns s (λ t. left r (rest-of s r (asked-by ask) verdict t) t) (λ t. rest-of s r (asked-by ask) verdict t .says) (now (run .entry)) (now (run .exit)) v ⌝ }
 {
     match verdict {
-        Verdict::New => take_share(run, s, r, place, tickets::ticket_of(place.u, ask)),
+        Verdict::New => take_share(run, s, r, extent, tickets::ticket_of(extent.u, ask)),
         Verdict::Duplicate => verdict,
         Verdict::Late => verdict,
         Verdict::Ahead => verdict,
@@ -94,9 +98,9 @@ pub fn take(run: &mut [u64], s: Settings, r: usize, ask: Ask) -> Verdict
     requires { ⌜ RunWords s (now run) × (r < s .registers) ⌝ }
     ensures { λ v. ⌜ StateTurns s (λ t. asked s r taken (asked-by ask) t .state) (take-says s r (asked-by ask)) (now (run .entry)) (now (run .exit)) v ⌝ }
 {
-    let place = starts::place_of(s, r);
-    let verdict = whole::judge(run, s, r, place, ask);
-    take_judged(run, s, r, place, ask, verdict)
+    let extent = starts::register_extent(s, r);
+    let verdict = on_register::judge(run, s, r, extent, ask);
+    take_judged(run, s, r, extent, ask, verdict)
 }
 
 // As `take`, for a batch: judged as `judge_batch` judges it.
@@ -104,7 +108,7 @@ pub fn take_batch(run: &mut [u64], s: Settings, r: usize, ask: Ask) -> Verdict
     requires { ⌜ RunWords s (now run) × (r < s .registers) ⌝ }
     ensures { λ v. ⌜ StateTurns s (λ t. asked s r taken-batch (asked-by ask) t .state) (take-batch-says s r (asked-by ask)) (now (run .entry)) (now (run .exit)) v ⌝ }
 {
-    let place = starts::place_of(s, r);
-    let verdict = whole::judge_batch(run, s, r, place, ask);
-    take_judged(run, s, r, place, ask, verdict)
+    let extent = starts::register_extent(s, r);
+    let verdict = on_register::judge_batch(run, s, r, extent, ask);
+    take_judged(run, s, r, extent, ask, verdict)
 }

@@ -13,10 +13,11 @@ use numbers::layout;
 use numbers::starts;
 ghost use mathlib.Core.Path.{_≡_};
 ghost use mathlib.Core.Bool.{true};
+ghost use Rattle.runs.specs.Turns.{silent};
 ghost use Rattle.model.specs.Settings.{limits-fit};
 ghost use Rattle.model.specs.Class.{class-of};
 ghost use Rattle.book.specs.ClassRules.{ClassIs, ClassReads};
-ghost use Rattle.taking.specs.Rules.{Proper, Granted, share-in, share-for, drawn-by, silent};
+ghost use Rattle.taking.specs.Rules.{Proper, Granted, share-in, share-for, drawn-by};
 ghost use Rattle.taking.specs.Words.{RunWords, StateReads, StateTurns};
 
 // Where a draw would be entered, and whether it is granted.

@@ -18,7 +18,7 @@ ghost use Rattle.model.specs.RegisterWords.{each-form, ring-form, register-form
 ghost use Rattle.model.specs.Words.{front-sound as front-rule, book-form, registers-form, unused-width, class-width, ring-width, register-width};
 ghost use Rattle.model.specs.Calls.{sound};
 
-// The front: it keeps the settings that are handed in, its limits are in bounds, and the closed flag is a flag.
+// The front: it keeps the settings that the call brings, its limits are in bounds, and the closed flag is a flag.
 fn front_sound(s: Settings, front: &[u64]) -> bool
     requires { ⌜ length (now front) ≡ 20 ⌝ }
     ensures { λ r. ⌜ r ≡ front-rule s (now (front .entry)) ⌝ }
@@ -39,7 +39,7 @@ fn front_sound(s: Settings, front: &[u64]) -> bool
     kept & (limits & (front[layout::CLOSED] <= 1))
 }
 
-// A register's own words: it keeps the settings that are handed in, its published sweep is that of its swept bucket, its flags
+// A register's own words: it keeps the settings that the call brings, its published sweep is that of its swept bucket, its flags
 // are flags, and an absent floor is 0.
 fn heading_sound(u: Usable, heading: &[u64]) -> bool
     requires { ⌜ length (now heading) ≡ 24 ⌝ }
@@ -110,9 +110,9 @@ fn book_sound(s: Settings, book: &[u64]) -> bool
 {
     let a = starts::class_width(s.shares);
     let b = 2 * a;
-    let feeders = audit::class_sound(&book[0..a], s.shares, Class::Feeders);
-    let peers = audit::class_sound(&book[a..b], s.shares, Class::Peers);
-    let own = audit::class_sound(&book[b..], s.shares, Class::Own);
+    let feeders = book_sound::class_sound(&book[0..a], s.shares, Class::Feeders);
+    let peers = book_sound::class_sound(&book[a..b], s.shares, Class::Peers);
+    let own = book_sound::class_sound(&book[b..], s.shares, Class::Own);
     feeders & (peers & own)
 }
 

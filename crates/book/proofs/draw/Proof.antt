@@ -28,13 +28,25 @@ add-judge : tie.Need-add-judge
 add-judge c = search needs
 
 add-judge-2 : tie.Need-add-judge-2
-add-judge-2 c = let s = c .before .before .before .before .before .before .before .args in let w = c .before .before .before .before .before .before .before .pre .0 .class in let p = c .before .before .before .before .before .place-units .ensures in let u = units-small (s .shares) (s .who) (w .feeder) (w .peer) in omega arith
+add-judge-2 c =
+    let s = c .before .before .before .before .before .before .before .args in
+    let pre = c .before .before .before .before .before .before .before .pre in
+    let place-units = c .before .before .before .before .before .place-units in
+    let w = pre .0 .class in
+    let p = place-units .ensures in
+    let u = units-small (s .shares) (s .who) (w .feeder) (w .peer) in
+    omega arith
 
 shared-slice-read-judge : tie.Need-shared-slice-read-judge
 shared-slice-read-judge c = search needs
 
 add-judge-3 : tie.Need-add-judge-3
-add-judge-3 c = let s = c .before .before .before .before .before .before .before .before .args in let p = c .before .before .before .before .before .if-none .ensures in let u = if-none-le (s .spot .entries) 1 in omega arith
+add-judge-3 c =
+    let s = c .before .before .before .before .before .before .before .before .args in
+    let if-none = c .before .before .before .before .before .if-none in
+    let p = if-none .ensures in
+    let u = if-none-le (s .spot .entries) 1 in
+    omega arith
 
 shared-slice-read-judge-2 : tie.Need-shared-slice-read-judge-2
 shared-slice-read-judge-2 c = search needs
@@ -43,13 +55,36 @@ add-judge-4 : tie.Need-add-judge-4
 add-judge-4 c = search needs
 
 add-judge-5 : tie.Need-add-judge-5
-add-judge-5 c = let s = c .before .before .before .before .before .before .before .before .before .args in let w = c .before .before .before .before .before .before .before .before .before .pre .0 .class in let p = c .before .before .before .before .before .before .before .place-units .ensures in let q = c .before .before .before .before .before .if-none2 .ensures in let u = units-small (s .shares) (s .who) (w .feeder) (w .peer) in let v = if-none-le (s .spot .entries) (place-units (s .shares) (s .who)) in let z : _ ≡ if-none (s .spot .entries) (place-units (s .shares) (s .who)) = q ∙ ap (if-none (s .spot .entries)) p in omega arith
+add-judge-5 c =
+    let s = c .before .before .before .before .before .before .before .before .before .args in
+    let pre = c .before .before .before .before .before .before .before .before .before .pre in
+    let place-units-2 = c .before .before .before .before .before .before .before .place-units in
+    let if-none2 = c .before .before .before .before .before .if-none2 in
+    let w = pre .0 .class in
+    let p = place-units-2 .ensures in
+    let q = if-none2 .ensures in
+    let u = units-small (s .shares) (s .who) (w .feeder) (w .peer) in
+    let v = if-none-le (s .spot .entries) (place-units (s .shares) (s .who)) in
+    let z : _ ≡ if-none (s .spot .entries) (place-units (s .shares) (s .who)) = q ∙ ap (if-none (s .spot .entries)) p in
+    omega arith
 
 judge-requires : tie.Need-judge-requires
-judge-requires c κs = let s = c .before .before .before .before .before .before .before .before .before .args in (some-holder (s .shares) (s .limits) (s .closed) (s .who) (s .part .now) (s .spot) (c .before .before .before .before .before .before .before .before .before .pre .0) _ (c .before .before .before .before .before .before .if-none .ensures), limit-fits (s .limits) (class-of (s .who)) (c .before .before .before .before .before .before .before .before .before .pre .1))
+judge-requires c κs =
+    let s = c .before .before .before .before .before .before .before .before .before .args in
+    let pre = c .before .before .before .before .before .before .before .before .before .pre in
+    let if-none = c .before .before .before .before .before .before .if-none in
+    (some-holder (s .shares) (s .limits) (s .closed) (s .who) (s .part .now) (s .spot) (pre .0) _ (if-none .ensures), limit-fits (s .limits) (class-of (s .who)) (pre .1))
 
 returns : tie.Need-returns
-returns c = let s = c .before .before .before .before .before .before .before .before .before .before .args in draw-says (s .shares) (s .limits) (s .closed) (s .who) (s .part .now) (s .spot) (c .before .before .before .before .before .before .before .before .before .before .pre .0) _ _ _ _ _ (c .before .before .before .before .before .before .before .before .place-units .ensures) (c .before .before .before .before .before .before .before .if-none .ensures) (c .before .before .before .before .before .before .if-none2 .ensures) (c .before .before .before .before .room .ensures) (c .judge .ensures)
+returns c =
+    let s = c .before .before .before .before .before .before .before .before .before .before .args in
+    let pre = c .before .before .before .before .before .before .before .before .before .before .pre in
+    let place-units = c .before .before .before .before .before .before .before .before .place-units in
+    let if-none = c .before .before .before .before .before .before .before .if-none in
+    let if-none2 = c .before .before .before .before .before .before .if-none2 in
+    let room = c .before .before .before .before .room in
+    draw-says (s .shares) (s .limits) (s .closed) (s .who) (s .part .now) (s .spot) (pre .0) _ _ _ _ _ (place-units .ensures) (if-none .ensures) (if-none2 .ensures)
+    (room .ensures) (c .judge .ensures)
 
 pub draw-spec : {M : Type 1} → statement M
 draw-spec =

@@ -33,7 +33,13 @@ same-length : tie.Need-same-length
 same-length c = search needs
 
 returns : tie.Need-returns
-returns c = let s = c .before .before .before .before .before .before .before .before .before .args in enters-new (s .shares) (s .who) (s .part .now) (s .spot) (c .before .before .before .before .before .before .before .before .before .pre) (c .before .before .before .before .if1 .taken) _ _ (c .before .before .before .before .before .before .before .place-start .ensures .0) (ends-at _ (c .before .before .before .before .before .before .place-width .ensures .0)) _ (c .before .before .«open» .ensures)
+returns c =
+    let s = c .before .before .before .before .before .before .before .before .before .args in
+    let pre = c .before .before .before .before .before .before .before .before .before .pre in
+    let place-start = c .before .before .before .before .before .before .before .place-start in
+    let place-width = c .before .before .before .before .before .before .place-width in
+    let if1 = c .before .before .before .before .if1 in
+    enters-new (s .shares) (s .who) (s .part .now) (s .spot) pre (if1 .taken) _ _ (place-start .ensures .0) (ends-at _ (place-width .ensures .0)) _ (c .before .before .«open» .ensures)
 
 mul-raise : tie.Need-mul-raise
 mul-raise c = search needs
@@ -48,13 +54,27 @@ part-raise-end : tie.Need-part-raise-end
 part-raise-end c = search needs
 
 raise-requires : tie.Need-raise-requires
-raise-requires c κs = let s = c .before .before .before .before .before .before .before .args in raise-asks (s .shares) (s .who) (s .part .now) (s .spot) (c .before .before .before .before .before .before .before .pre) (c .before .before .if1 .left) _ _ (c .before .before .before .before .before .place-start .ensures .0) (ends-at _ (c .before .before .before .before .place-width .ensures .0)) (c .before .if2 .taken)
+raise-requires c κs =
+    let s = c .before .before .before .before .before .before .before .args in
+    let pre = c .before .before .before .before .before .before .before .pre in
+    let place-start = c .before .before .before .before .before .place-start in
+    let place-width = c .before .before .before .before .place-width in
+    let if1 = c .before .before .if1 in
+    raise-asks (s .shares) (s .who) (s .part .now) (s .spot) pre (if1 .left) _ _ (place-start .ensures .0) (ends-at _ (place-width .ensures .0)) (c .before .if2 .taken)
 
 same-length-2 : tie.Need-same-length-2
 same-length-2 c = search needs
 
 returns-2 : tie.Need-returns-2
-returns-2 c = let s = c .before .before .before .before .before .before .before .before .before .before .args in enters-listed (s .shares) (s .who) (s .part .now) (s .spot) (c .before .before .before .before .before .before .before .before .before .before .pre) (c .before .before .before .before .before .if1 .left) _ _ (c .before .before .before .before .before .before .before .before .place-start .ensures .0) (ends-at _ (c .before .before .before .before .before .before .before .place-width .ensures .0)) (c .before .before .before .before .if2 .taken) _ (c .before .before .raise .ensures)
+returns-2 c =
+    let s = c .before .before .before .before .before .before .before .before .before .before .args in
+    let pre = c .before .before .before .before .before .before .before .before .before .before .pre in
+    let place-start = c .before .before .before .before .before .before .before .before .place-start in
+    let place-width = c .before .before .before .before .before .before .before .place-width in
+    let if1 = c .before .before .before .before .before .if1 in
+    let if2 = c .before .before .before .before .if2 in
+    let raise = c .before .before .raise in
+    enters-listed (s .shares) (s .who) (s .part .now) (s .spot) pre (if1 .left) _ _ (place-start .ensures .0) (ends-at _ (place-width .ensures .0)) (if2 .taken) _ (raise .ensures)
 
 mul-insert : tie.Need-mul-insert
 mul-insert c = search needs
@@ -69,13 +89,27 @@ part-insert-end : tie.Need-part-insert-end
 part-insert-end c = search needs
 
 insert-requires : tie.Need-insert-requires
-insert-requires c κs = let s = c .before .before .before .before .before .before .before .args in insert-asks (s .shares) (s .who) (s .part .now) (s .spot) (c .before .before .before .before .before .before .before .pre) (c .before .before .if1 .left) _ _ (c .before .before .before .before .before .place-start .ensures .0) (ends-at _ (c .before .before .before .before .place-width .ensures .0)) (c .before .if2 .left)
+insert-requires c κs =
+    let s = c .before .before .before .before .before .before .before .args in
+    let pre = c .before .before .before .before .before .before .before .pre in
+    let place-start = c .before .before .before .before .before .place-start in
+    let place-width = c .before .before .before .before .place-width in
+    let if1 = c .before .before .if1 in
+    insert-asks (s .shares) (s .who) (s .part .now) (s .spot) pre (if1 .left) _ _ (place-start .ensures .0) (ends-at _ (place-width .ensures .0)) (c .before .if2 .left)
 
 same-length-3 : tie.Need-same-length-3
 same-length-3 c = search needs
 
 returns-3 : tie.Need-returns-3
-returns-3 c = let s = c .before .before .before .before .before .before .before .before .before .before .args in enters-pair (s .shares) (s .who) (s .part .now) (s .spot) (c .before .before .before .before .before .before .before .before .before .before .pre) (c .before .before .before .before .before .if1 .left) _ _ (c .before .before .before .before .before .before .before .before .place-start .ensures .0) (ends-at _ (c .before .before .before .before .before .before .before .place-width .ensures .0)) (c .before .before .before .before .if2 .left) _ (c .before .before .insert .ensures)
+returns-3 c =
+    let s = c .before .before .before .before .before .before .before .before .before .before .args in
+    let pre = c .before .before .before .before .before .before .before .before .before .before .pre in
+    let place-start = c .before .before .before .before .before .before .before .before .place-start in
+    let place-width = c .before .before .before .before .before .before .before .place-width in
+    let if1 = c .before .before .before .before .before .if1 in
+    let if2 = c .before .before .before .before .if2 in
+    let insert = c .before .before .insert in
+    enters-pair (s .shares) (s .who) (s .part .now) (s .spot) pre (if1 .left) _ _ (place-start .ensures .0) (ends-at _ (place-width .ensures .0)) (if2 .left) _ (insert .ensures)
 
 pub enter-place-spec : {M : Type 1} → statement M
 enter-place-spec =

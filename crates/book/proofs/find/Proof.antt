@@ -13,7 +13,11 @@ shared-slice-read-holders : tie.Need-shared-slice-read-holders
 shared-slice-read-holders c = search needs
 
 returns : tie.Need-returns
-returns c = let s = c .before .before .before .before .args in found-none (s .shares) (s .who) (s .second .0) (s .part .now) (c .before .before .before .before .pre) _ (c .before .before .find-place .ensures) (c .if1 .taken)
+returns c =
+    let s = c .before .before .before .before .args in
+    let pre = c .before .before .before .before .pre in
+    let find-place = c .before .before .find-place in
+    found-none (s .shares) (s .who) (s .second .0) (s .part .now) pre _ (find-place .ensures) (c .if1 .taken)
 
 place-start-requires : tie.Need-place-start-requires
 place-start-requires c κs = search needs
@@ -34,13 +38,31 @@ part-look-start : tie.Need-part-look-start
 part-look-start c = search needs
 
 part-look-end : tie.Need-part-look-end
-part-look-end c = let s = c .before .before .before .before .before .before .args in let k = in-part (s .shares) (class-of (s .who)) (s .part .now) (c .before .before .before .before .before .before .pre) _ (c .before .before .if1 .left) in omega arith
+part-look-end c =
+    let s = c .before .before .before .before .before .before .args in
+    let pre = c .before .before .before .before .before .before .pre in
+    let if1 = c .before .before .if1 in
+    let k = in-part (s .shares) (class-of (s .who)) (s .part .now) pre _ (if1 .left) in
+    omega arith
 
 look-requires : tie.Need-look-requires
-look-requires c κs = let s = c .before .before .before .before .before .before .before .args in part-wide (s .shares) (class-of (s .who)) (s .part .now) (c .before .before .before .before .before .before .before .pre) _ _ _ (c .before .before .before .if1 .left) (c .before .before .place-start .ensures .0) (ends-at _ (c .before .place-width .ensures .0))
+look-requires c κs =
+    let s = c .before .before .before .before .before .before .before .args in
+    let pre = c .before .before .before .before .before .before .before .pre in
+    let if1 = c .before .before .before .if1 in
+    let place-start = c .before .before .place-start in
+    part-wide (s .shares) (class-of (s .who)) (s .part .now) pre _ _ _ (if1 .left) (place-start .ensures .0) (ends-at _ (c .before .place-width .ensures .0))
 
 returns-2 : tie.Need-returns-2
-returns-2 c = let s = c .before .before .before .before .before .before .before .before .args in found-here (s .shares) (s .who) (s .second .0) (s .part .now) (c .before .before .before .before .before .before .before .before .pre) _ (c .before .before .before .before .before .before .find-place .ensures) (c .before .before .before .before .if1 .left) _ _ (c .before .before .before .place-start .ensures .0) (ends-at _ (c .before .before .place-width .ensures .0)) _ (c .look .ensures)
+returns-2 c =
+    let s = c .before .before .before .before .before .before .before .before .args in
+    let pre = c .before .before .before .before .before .before .before .before .pre in
+    let find-place = c .before .before .before .before .before .before .find-place in
+    let if1 = c .before .before .before .before .if1 in
+    let place-start = c .before .before .before .place-start in
+    let place-width = c .before .before .place-width in
+    found-here (s .shares) (s .who) (s .second .0) (s .part .now) pre _ (find-place .ensures) (if1 .left) _ _ (place-start .ensures .0)
+    (ends-at _ (place-width .ensures .0)) _ (c .look .ensures)
 
 pub find-spec : {M : Type 1} → statement M
 find-spec =

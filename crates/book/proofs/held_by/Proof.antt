@@ -13,7 +13,11 @@ shared-slice-read-holders : tie.Need-shared-slice-read-holders
 shared-slice-read-holders c = search needs
 
 returns : tie.Need-returns
-returns c = let s = c .before .before .before .before .args in held-none (s .shares) (s .who) (s .part .now) (c .before .before .before .before .pre) _ (c .before .before .find-place .ensures) (c .if1 .taken)
+returns c =
+    let s = c .before .before .before .before .args in
+    let pre = c .before .before .before .before .pre in
+    let find-place = c .before .before .find-place in
+    held-none (s .shares) (s .who) (s .part .now) pre _ (find-place .ensures) (c .if1 .taken)
 
 place-start-requires : tie.Need-place-start-requires
 place-start-requires c κs = search needs
@@ -25,10 +29,20 @@ mul-result : tie.Need-mul-result
 mul-result c = search needs
 
 shared-slice-read-result : tie.Need-shared-slice-read-result
-shared-slice-read-result c = let s = c .before .before .before .before .before .before .args in let k = in-part (s .shares) (class-of (s .who)) (s .part .now) (c .before .before .before .before .before .before .pre) _ (c .before .before .if1 .left) in omega arith
+shared-slice-read-result c =
+    let s = c .before .before .before .before .before .before .args in
+    let pre = c .before .before .before .before .before .before .pre in
+    let if1 = c .before .before .if1 in
+    let k = in-part (s .shares) (class-of (s .who)) (s .part .now) pre _ (if1 .left) in
+    omega arith
 
 returns-2 : tie.Need-returns-2
-returns-2 c = let s = c .before .before .before .before .before .before .args in held-here (s .shares) (s .who) (s .part .now) (c .before .before .before .before .before .before .pre) _ (c .before .before .before .before .find-place .ensures) (c .before .before .if1 .left) _ (c .before .place-start .ensures .0)
+returns-2 c =
+    let s = c .before .before .before .before .before .before .args in
+    let pre = c .before .before .before .before .before .before .pre in
+    let find-place = c .before .before .before .before .find-place in
+    let if1 = c .before .before .if1 in
+    held-here (s .shares) (s .who) (s .part .now) pre _ (find-place .ensures) (if1 .left) _ (c .before .place-start .ensures .0)
 
 pub held-by-spec : {M : Type 1} → statement M
 held-by-spec =

@@ -39,7 +39,16 @@ same-length : tie.Need-same-length
 same-length c = search needs
 
 returns : tie.Need-returns
-returns c = let s = c .before .before .before .before .before .before .before .before .before .before .before .args in let l = c .before .before .before .before .before .before .before .before .before .before .before .pre in closes (s .shares) (s .who) (s .part .now) (s .spot) (l .found) (l .yes) (c .before .before .before .before .before .if1 .taken) _ _ (c .before .before .before .before .before .before .before .place-start .ensures .0) (c .before .before .before .before .place-start2 .ensures .0) _ (rw (c .before .before .before .before .before .before .before .before .place-width .ensures .0) at (c .before .before .close-up .ensures))
+returns c =
+    let s = c .before .before .before .before .before .before .before .before .before .before .before .args in
+    let l = c .before .before .before .before .before .before .before .before .before .before .before .pre in
+    let place-width = c .before .before .before .before .before .before .before .before .place-width in
+    let place-start = c .before .before .before .before .before .before .before .place-start in
+    let if1 = c .before .before .before .before .before .if1 in
+    let place-start2 = c .before .before .before .before .place-start2 in
+    let close-up = c .before .before .close-up in
+    closes (s .shares) (s .who) (s .part .now) (s .spot) (l .found) (l .yes) (if1 .taken) _ _ (place-start .ensures .0) (place-start2 .ensures .0) _
+    (rw (place-width .ensures .0) at (close-up .ensures))
 
 mul-count : tie.Need-mul-count
 mul-count c = search needs
@@ -54,7 +63,13 @@ part-count-end : tie.Need-part-count-end
 part-count-end c = search needs
 
 count-requires : tie.Need-count-requires
-count-requires c κs = let s = c .before .before .before .before .before .before .before .before .args in let l = c .before .before .before .before .before .before .before .before .pre in count-asks (s .shares) (s .who) (s .part .now) (s .spot) (l .found) (l .yes) (c .before .before .if1 .left) _ _ (c .before .before .before .before .place-start .ensures .0) (ends-at _ (c .before .before .before .before .before .place-width .ensures .0))
+count-requires c κs =
+    let s = c .before .before .before .before .before .before .before .before .args in
+    let l = c .before .before .before .before .before .before .before .before .pre in
+    let place-width = c .before .before .before .before .before .place-width in
+    let place-start = c .before .before .before .before .place-start in
+    let if1 = c .before .before .if1 in
+    count-asks (s .shares) (s .who) (s .part .now) (s .spot) (l .found) (l .yes) (if1 .left) _ _ (place-start .ensures .0) (ends-at _ (place-width .ensures .0))
 
 mul-remove : tie.Need-mul-remove
 mul-remove c = search needs
@@ -69,13 +84,29 @@ part-remove-end : tie.Need-part-remove-end
 part-remove-end c = search needs
 
 remove-requires : tie.Need-remove-requires
-remove-requires c κs = let s = c .before .before .before .before .before .before .before .before .before .before .before .args in let l = c .before .before .before .before .before .before .before .before .before .before .before .pre in remove-asks (s .shares) (s .who) (s .part .now) (s .spot) (l .found) (l .yes) (c .before .before .before .before .before .if1 .left) _ _ (c .before .before .before .before .before .before .before .place-start .ensures .0) (ends-at _ (c .before .before .before .before .before .before .before .before .place-width .ensures .0))
+remove-requires c κs =
+    let s = c .before .before .before .before .before .before .before .before .before .before .before .args in
+    let l = c .before .before .before .before .before .before .before .before .before .before .before .pre in
+    let place-width = c .before .before .before .before .before .before .before .before .place-width in
+    let place-start = c .before .before .before .before .before .before .before .place-start in
+    let if1 = c .before .before .before .before .before .if1 in
+    remove-asks (s .shares) (s .who) (s .part .now) (s .spot) (l .found) (l .yes) (if1 .left) _ _ (place-start .ensures .0) (ends-at _ (place-width .ensures .0))
 
 same-length-2 : tie.Need-same-length-2
 same-length-2 c = search needs
 
 returns-2 : tie.Need-returns-2
-returns-2 c = let s = c .before .before .before .before .before .before .before .before .before .before .before .before .before .before .args in let l = c .before .before .before .before .before .before .before .before .before .before .before .before .before .before .pre in returns-single (s .shares) (s .who) (s .part .now) (s .spot) (l .found) (l .yes) (c .before .before .before .before .before .before .before .before .if1 .left) _ _ (c .before .before .before .before .before .before .before .before .before .before .place-start .ensures .0) (ends-at _ (c .before .before .before .before .before .before .before .before .before .before .before .place-width .ensures .0)) _ (c .before .before .before .before .before .count .ensures) (c .before .before .before .before .if2 .taken) _ (c .before .before .remove .ensures)
+returns-2 c =
+    let s = c .before .before .before .before .before .before .before .before .before .before .before .before .before .before .args in
+    let l = c .before .before .before .before .before .before .before .before .before .before .before .before .before .before .pre in
+    let place-width = c .before .before .before .before .before .before .before .before .before .before .before .place-width in
+    let place-start = c .before .before .before .before .before .before .before .before .before .before .place-start in
+    let if1 = c .before .before .before .before .before .before .before .before .if1 in
+    let count = c .before .before .before .before .before .count in
+    let if2 = c .before .before .before .before .if2 in
+    let remove = c .before .before .remove in
+    returns-single (s .shares) (s .who) (s .part .now) (s .spot) (l .found) (l .yes) (if1 .left) _ _ (place-start .ensures .0) (ends-at _ (place-width .ensures .0)) _
+    (count .ensures) (if2 .taken) _ (remove .ensures)
 
 mul-lower : tie.Need-mul-lower
 mul-lower c = search needs
@@ -90,13 +121,29 @@ part-lower-end : tie.Need-part-lower-end
 part-lower-end c = search needs
 
 lower-requires : tie.Need-lower-requires
-lower-requires c κs = let s = c .before .before .before .before .before .before .before .before .before .before .before .args in let l = c .before .before .before .before .before .before .before .before .before .before .before .pre in lower-asks (s .shares) (s .who) (s .part .now) (s .spot) (l .found) (l .yes) (c .before .before .before .before .before .if1 .left) _ _ (c .before .before .before .before .before .before .before .place-start .ensures .0) (ends-at _ (c .before .before .before .before .before .before .before .before .place-width .ensures .0))
+lower-requires c κs =
+    let s = c .before .before .before .before .before .before .before .before .before .before .before .args in
+    let l = c .before .before .before .before .before .before .before .before .before .before .before .pre in
+    let place-width = c .before .before .before .before .before .before .before .before .place-width in
+    let place-start = c .before .before .before .before .before .before .before .place-start in
+    let if1 = c .before .before .before .before .before .if1 in
+    lower-asks (s .shares) (s .who) (s .part .now) (s .spot) (l .found) (l .yes) (if1 .left) _ _ (place-start .ensures .0) (ends-at _ (place-width .ensures .0))
 
 same-length-3 : tie.Need-same-length-3
 same-length-3 c = search needs
 
 returns-3 : tie.Need-returns-3
-returns-3 c = let s = c .before .before .before .before .before .before .before .before .before .before .before .before .before .before .args in let l = c .before .before .before .before .before .before .before .before .before .before .before .before .before .before .pre in returns-lower (s .shares) (s .who) (s .part .now) (s .spot) (l .found) (l .yes) (c .before .before .before .before .before .before .before .before .if1 .left) _ _ (c .before .before .before .before .before .before .before .before .before .before .place-start .ensures .0) (ends-at _ (c .before .before .before .before .before .before .before .before .before .before .before .place-width .ensures .0)) _ (c .before .before .before .before .before .count .ensures) (c .before .before .before .before .if2 .left) _ (c .before .before .lower .ensures)
+returns-3 c =
+    let s = c .before .before .before .before .before .before .before .before .before .before .before .before .before .before .args in
+    let l = c .before .before .before .before .before .before .before .before .before .before .before .before .before .before .pre in
+    let place-width = c .before .before .before .before .before .before .before .before .before .before .before .place-width in
+    let place-start = c .before .before .before .before .before .before .before .before .before .before .place-start in
+    let if1 = c .before .before .before .before .before .before .before .before .if1 in
+    let count = c .before .before .before .before .before .count in
+    let if2 = c .before .before .before .before .if2 in
+    let lower = c .before .before .lower in
+    returns-lower (s .shares) (s .who) (s .part .now) (s .spot) (l .found) (l .yes) (if1 .left) _ _ (place-start .ensures .0) (ends-at _ (place-width .ensures .0)) _
+    (count .ensures) (if2 .left) _ (lower .ensures)
 
 pub return-place-spec : {M : Type 1} → statement M
 return-place-spec =

@@ -9,7 +9,10 @@ find-requires : tie.Need-find-requires
 find-requires c κs = search needs
 
 draw-requires : tie.Need-draw-requires
-draw-requires c κs = let s = c .before .before .before .before .args in (found-of (s .shares) (s .who) (s .second .0) (s .part .now) (c .before .before .before .before .pre .0) _ (c .before .find .ensures), c .before .before .before .before .pre .1)
+draw-requires c κs =
+    let s = c .before .before .before .before .args in
+    let pre = c .before .before .before .before .pre in
+    (found-of (s .shares) (s .who) (s .second .0) (s .part .now) (pre .0) _ (c .before .find .ensures), pre .1)
 
 is-granted-requires : tie.Need-is-granted-requires
 is-granted-requires c κs = search needs
@@ -18,16 +21,38 @@ same-length : tie.Need-same-length
 same-length c = search needs
 
 returns : tie.Need-returns
-returns c = let s = c .before .before .before .before .before .before .before .args in refused (s .shares) (s .who) (s .second .0) (s .part .now) (c .before .before .before .before .before .before .before .pre .0) _ (c .before .before .before .before .find .ensures) (s .limits) (s .closed) _ (c .before .before .draw .ensures) (sym (c .before .is-granted .ensures) ∙ not-true _ (c .if1 .taken))
+returns c =
+    let s = c .before .before .before .before .before .before .before .args in
+    let pre = c .before .before .before .before .before .before .before .pre in
+    let find = c .before .before .before .before .find in
+    let draw = c .before .before .draw in
+    refused (s .shares) (s .who) (s .second .0) (s .part .now) (pre .0) _ (find .ensures) (s .limits) (s .closed) _ (draw .ensures)
+    (sym (c .before .is-granted .ensures) ∙ not-true _ (c .if1 .taken))
 
 enter-requires : tie.Need-enter-requires
-enter-requires c κs = let s = c .before .before .before .before .before .before .before .before .args in roomy-of (s .shares) (s .who) (s .second .0) (s .part .now) (c .before .before .before .before .before .before .before .before .pre .0) _ (c .before .before .before .before .before .find .ensures) (s .limits) (s .closed) _ (c .before .before .before .draw .ensures) (sym (c .before .before .is-granted .ensures) ∙ not-false _ (c .before .if1 .left))
+enter-requires c κs =
+    let s = c .before .before .before .before .before .before .before .before .args in
+    let pre = c .before .before .before .before .before .before .before .before .pre in
+    let find = c .before .before .before .before .before .find in
+    let draw = c .before .before .before .draw in
+    let is-granted = c .before .before .is-granted in
+    roomy-of (s .shares) (s .who) (s .second .0) (s .part .now) (pre .0) _ (find .ensures) (s .limits) (s .closed) _ (draw .ensures)
+    (sym (is-granted .ensures) ∙ not-false _ (c .before .if1 .left))
 
 same-length-2 : tie.Need-same-length-2
 same-length-2 c = search needs
 
 returns-2 : tie.Need-returns-2
-returns-2 c = let s = c .before .before .before .before .before .before .before .before .before .before .before .args in granted-turns (s .shares) (s .who) (s .second .0) (s .part .now) (c .before .before .before .before .before .before .before .before .before .before .before .pre .0) _ (c .before .before .before .before .before .before .before .before .find .ensures) (s .limits) (s .closed) _ (c .before .before .before .before .before .before .draw .ensures) (sym (c .before .before .before .before .before .is-granted .ensures) ∙ not-false _ (c .before .before .before .before .if1 .left)) _ (c .before .before .enter .ensures)
+returns-2 c =
+    let s = c .before .before .before .before .before .before .before .before .before .before .before .args in
+    let pre = c .before .before .before .before .before .before .before .before .before .before .before .pre in
+    let find = c .before .before .before .before .before .before .before .before .find in
+    let draw = c .before .before .before .before .before .before .draw in
+    let is-granted = c .before .before .before .before .before .is-granted in
+    let if1 = c .before .before .before .before .if1 in
+    let enter = c .before .before .enter in
+    granted-turns (s .shares) (s .who) (s .second .0) (s .part .now) (pre .0) _ (find .ensures) (s .limits) (s .closed) _ (draw .ensures)
+    (sym (is-granted .ensures) ∙ not-false _ (if1 .left)) _ (enter .ensures)
 
 pub take-spec : {M : Type 1} → statement M
 take-spec =

@@ -12,7 +12,11 @@ same-length : tie.Need-same-length
 same-length c = search needs
 
 returns : tie.Need-returns
-returns c = let s = c .before .before .before .before .before .args in untakes-none (s .shares) (s .who) (s .second .0) (s .part .now) (c .before .before .before .before .before .pre) _ (c .before .before .find .ensures) (not-true _ (c .if1 .taken))
+returns c =
+    let s = c .before .before .before .before .before .args in
+    let pre = c .before .before .before .before .before .pre in
+    let find = c .before .before .find in
+    untakes-none (s .shares) (s .who) (s .second .0) (s .part .now) pre _ (find .ensures) (not-true _ (c .if1 .taken))
 
 place-units-requires : tie.Need-place-units-requires
 place-units-requires c κs = search needs
@@ -27,10 +31,24 @@ read-requires : tie.Need-read-requires
 read-requires c κs = search needs
 
 lent-to-untake-requires : tie.Need-lent-to-untake-requires
-lent-to-untake-requires c κs = let s = c .before .before .before .before .before .before .before .before .before .before .args in untake-asks (s .shares) (s .who) (s .part .now) _ (found-of (s .shares) (s .who) (s .second .0) (s .part .now) (c .before .before .before .before .before .before .before .before .before .before .pre) _ (c .before .before .before .before .before .before .before .find .ensures)) (not-false _ (c .before .before .before .before .before .if1 .left)) _ _ _ _ (c .before .before .before .before .place-units .ensures) (c .before .before .before .if-one .ensures) (c .before .before .if-one2 .ensures) (c .read .ensures)
+lent-to-untake-requires c κs =
+    let s = c .before .before .before .before .before .before .before .before .before .before .args in
+    let pre = c .before .before .before .before .before .before .before .before .before .before .pre in
+    let find = c .before .before .before .before .before .before .before .find in
+    let if1 = c .before .before .before .before .before .if1 in
+    let place-units = c .before .before .before .before .place-units in
+    let if-one = c .before .before .before .if-one in
+    let if-one2 = c .before .before .if-one2 in
+    untake-asks (s .shares) (s .who) (s .part .now) _ (found-of (s .shares) (s .who) (s .second .0) (s .part .now) pre _ (find .ensures)) (not-false _ (if1 .left)) _ _ _
+    _ (place-units .ensures) (if-one .ensures) (if-one2 .ensures) (c .read .ensures)
 
 return-place-requires : tie.Need-return-place-requires
-return-place-requires c κs = let s = c .before .before .before .before .before .before .before .before .before .before .before .before .args in listed-of (s .shares) (s .who) (s .second .0) (s .part .now) (c .before .before .before .before .before .before .before .before .before .before .before .before .pre) _ (c .before .before .before .before .before .before .before .before .before .find .ensures) (not-false _ (c .before .before .before .before .before .before .before .if1 .left))
+return-place-requires c κs =
+    let s = c .before .before .before .before .before .before .before .before .before .before .before .before .args in
+    let pre = c .before .before .before .before .before .before .before .before .before .before .before .before .pre in
+    let find = c .before .before .before .before .before .before .before .before .before .find in
+    let if1 = c .before .before .before .before .before .before .before .if1 in
+    listed-of (s .shares) (s .who) (s .second .0) (s .part .now) pre _ (find .ensures) (not-false _ (if1 .left))
 
 write-requires : tie.Need-write-requires
 write-requires c κs = search needs
@@ -39,7 +57,20 @@ same-length-2 : tie.Need-same-length-2
 same-length-2 c = search needs
 
 returns-2 : tie.Need-returns-2
-returns-2 c = let s = c .before .before .before .before .before .before .before .before .before .before .before .before .before .before .before .before .before .before .before .args in rw (c .before .before .write .ensures) (untakes (s .shares) (s .who) (s .second .0) (s .part .now) (c .before .before .before .before .before .before .before .before .before .before .before .before .before .before .before .before .before .before .before .pre) _ (c .before .before .before .before .before .before .before .before .before .before .before .before .before .before .before .before .find .ensures) (not-false _ (c .before .before .before .before .before .before .before .before .before .before .before .before .before .before .if1 .left)) _ _ _ _ _ _ (c .before .before .before .before .before .before .before .before .before .before .before .before .before .place-units .ensures) (c .before .before .before .before .before .before .before .before .before .before .before .before .if-one .ensures) (c .before .before .before .before .before .before .before .before .before .before .before .if-one2 .ensures) (c .before .before .before .before .before .before .before .before .before .read .ensures) (c .before .before .before .before .before .before .before .before .lent-to-untake .ensures) (c .before .before .before .before .before .before .return-place .ensures))
+returns-2 c =
+    let s = c .before .before .before .before .before .before .before .before .before .before .before .before .before .before .before .before .before .before .before .args in
+    let pre = c .before .before .before .before .before .before .before .before .before .before .before .before .before .before .before .before .before .before .before .pre in
+    let find = c .before .before .before .before .before .before .before .before .before .before .before .before .before .before .before .before .find in
+    let if1 = c .before .before .before .before .before .before .before .before .before .before .before .before .before .before .if1 in
+    let place-units = c .before .before .before .before .before .before .before .before .before .before .before .before .before .place-units in
+    let if-one = c .before .before .before .before .before .before .before .before .before .before .before .before .if-one in
+    let if-one2 = c .before .before .before .before .before .before .before .before .before .before .before .if-one2 in
+    let read = c .before .before .before .before .before .before .before .before .before .read in
+    let lent-to-untake = c .before .before .before .before .before .before .before .before .lent-to-untake in
+    let return-place = c .before .before .before .before .before .before .return-place in
+    let write = c .before .before .write in
+    rw (write .ensures) (untakes (s .shares) (s .who) (s .second .0) (s .part .now) pre _ (find .ensures) (not-false _ (if1 .left)) _ _ _ _ _ _ (place-units .ensures)
+    (if-one .ensures) (if-one2 .ensures) (read .ensures) (lent-to-untake .ensures) (return-place .ensures))
 
 pub untake-spec : {M : Type 1} → statement M
 untake-spec =

@@ -16,7 +16,11 @@ same-length : tie.Need-same-length
 same-length c = search needs
 
 returns : tie.Need-returns
-returns c = let s = c .before .before .before .before .before .before .before .args in take-keeps (s .id) (s .second) (s .words .now) (c .before .before .before .before .before .before .before .pre .0) (c .before .before .before .before .before .before .before .pre .1) _ _ (c .before .before .before .before .take .ensures)
+returns c =
+    let s = c .before .before .before .before .before .before .before .args in
+    let pre = c .before .before .before .before .before .before .before .pre in
+    let take = c .before .before .before .before .take in
+    take-keeps (s .id) (s .second) (s .words .now) (pre .0) (pre .1) _ _ (take .ensures)
 
 pub take-spec : {M : Type 1} → statement M
 take-spec =

@@ -10,7 +10,11 @@ same-length : tie.Need-same-length
 same-length c = search needs
 
 returns : tie.Need-returns
-returns c = let s = c .before .before .before .before .before .args in untake-keeps (s .id) (s .second) (s .words .now) (c .before .before .before .before .before .pre) _ (c .before .before .untake .ensures)
+returns c =
+    let s = c .before .before .before .before .before .args in
+    let pre = c .before .before .before .before .before .pre in
+    let untake = c .before .before .untake in
+    untake-keeps (s .id) (s .second) (s .words .now) pre _ (untake .ensures)
 
 pub untake-spec : {M : Type 1} → statement M
 untake-spec = tie.close (tie.spec untake-requires same-length returns)

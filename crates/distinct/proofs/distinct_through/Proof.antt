@@ -21,7 +21,10 @@ same-length-2 : tie.Need-same-length-2
 same-length-2 c = search needs
 
 returns : tie.Need-returns
-returns c = c .neighbours-differ .ensures ∙ told _ _ (c .before .before .before .before .before .before .sort .ensures) ∙ ap distinct (c .before .before .before .before .before .before .before .before .before .before .before .copy-words .ensures)
+returns c =
+    let copy-words = c .before .before .before .before .before .before .before .before .before .before .before .copy-words in
+    let sort = c .before .before .before .before .before .before .sort in
+    c .neighbours-differ .ensures ∙ told _ _ (sort .ensures) ∙ ap distinct (copy-words .ensures)
 
 pub distinct-through-spec : {M : Type 1} → statement M
 distinct-through-spec =

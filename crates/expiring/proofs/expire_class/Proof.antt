@@ -29,13 +29,25 @@ part-expire-end : tie.Need-part-expire-end
 part-expire-end c = search needs
 
 expire-requires : tie.Need-expire-requires
-expire-requires c κs = let s = c .before .before .before .before in (class-asks (s .args .s) (s .args .class) _ _ (c .before .before .class-start .ensures .0) (ap (λ (n : ℕ). c .before .before .class-start .result + n) (c .before .class-width .ensures .0)) (s .args .run .now) (s .pre .0), s .pre .1)
+expire-requires c κs =
+    let s = c .before .before .before .before in
+    let class-start = c .before .before .class-start in (
+      class-asks (s .args .s) (s .args .class) _ _ (class-start .ensures .0) (ap (λ (n : ℕ). class-start .result + n) (c .before .class-width .ensures .0))
+          (s .args .run .now) (s .pre .0),
+      s .pre .1,
+    )
 
 same-length : tie.Need-same-length
 same-length c = search needs
 
 returns : tie.Need-returns
-returns c = let s = c .before .before .before .before .before .before .before in class-done (s .args .s) (s .args .class) _ _ (c .before .before .before .before .before .class-start .ensures .0) (ap (λ (n : ℕ). c .before .before .before .before .before .class-start .result + n) (c .before .before .before .before .class-width .ensures .0)) (s .args .run .now) _ (s .args .t .0) (s .pre .1) (s .pre .0) (c .before .before .expire .ensures)
+returns c =
+    let s = c .before .before .before .before .before .before .before in
+    let class-start = c .before .before .before .before .before .class-start in
+    let class-width = c .before .before .before .before .class-width in
+    let expire = c .before .before .expire in
+    class-done (s .args .s) (s .args .class) _ _ (class-start .ensures .0) (ap (λ (n : ℕ). class-start .result + n) (class-width .ensures .0)) (s .args .run .now) _
+    (s .args .t .0) (s .pre .1) (s .pre .0) (expire .ensures)
 
 pub expire-class-spec : {M : Type 1} → statement M
 expire-class-spec =

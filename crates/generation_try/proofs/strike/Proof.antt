@@ -47,8 +47,14 @@ insert-requires c κs =
     let sound = sym (c .before .before .before .before .before .before .before .before .is-sound .ensures) ∙ not-false _ (c .before .before .before .before .before .before .before .if2 .left) in
     let part = c .before .before .before .before .before .before .before .before .before .before .before .before .args .part .now in
     let r = c .before .before .before .room in
-    let roomy = found-roomy 8 24 0 (omega arith) part l sound _ _ _ (r .result) (c .before .enum-told3 .given .1) (r .ensures) in
-    ((c .before .before .before .before .before .before .before .before .before .before .before .before .pre, c .before .before .before .before .before .contains .ensures), (sound-bounded 8 24 0 (omega arith) part l sound, roomy))
+    let roomy = found-roomy 8 24 0 (omega arith) part l sound _ _ _ (r .result) (c .before .enum-told3 .given .1) (r .ensures) in (
+      (
+        c .before .before .before .before .before .before .before .before .before .before .before .before .pre,
+        c .before .before .before .before .before .contains
+            .ensures,
+      ),
+      (sound-bounded 8 24 0 (omega arith) part l sound, roomy),
+    )
 
 same-length-2 : tie.Need-same-length-2
 same-length-2 c = search needs

@@ -3,14 +3,14 @@ use Prim.Native.Nat.{_-_, _*_}
 use mathlib.Core.Path.{refl}
 use borrow.Author.Needs.{needs}
 use Rattle.runs.proofs.Walk.{Passed, walk-start, walk-on, pass-end}
-use Rattle.runs.specs.Combine.{at-place}
+use Rattle.runs.specs.Combine.{form-at}
 use Rattle.model.specs.Widths.{generation-width}
 use Rattle.model.specs.GenerationWords.{generation-place}
 use Rattle.ring.proofs.is_sound.Statement.{statement}
 use Rattle.ring.proofs.is_sound.Tie as tie
 
 abbrev Inv-loop : tie.InvT-loop
-Inv-loop words slots ring all₀ i₀ all i = Passed (at-place (generation-place slots ring)) ring words i (i * generation-width slots) all
+Inv-loop words slots ring all₀ i₀ all i = Passed (form-at (generation-place slots ring)) ring words i (i * generation-width slots) all
 
 abbrev μ-loop : tie.MeasureT-loop
 μ-loop words slots ring all₀ i₀ all i = ring - i
@@ -58,7 +58,7 @@ returns : tie.Need-returns Inv-loop μ-loop
 returns c =
     let l = c .before .loop in
     let a = c .before .before .before .args in
-    pass-end (at-place (generation-place (a .slots) (a .ring))) _ _ _ _ _ (l .inv) (c .loop-test .left)
+    pass-end (form-at (generation-place (a .slots) (a .ring))) _ _ _ _ _ (l .inv) (c .loop-test .left)
 
 pub is-sound-spec : {M : Type 1} → statement M
 is-sound-spec =

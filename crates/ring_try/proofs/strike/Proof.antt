@@ -25,7 +25,13 @@ enum-known-room : tie.Need-enum-known-room
 enum-known-room c = search needs
 
 insert-requires : tie.Need-insert-requires
-insert-requires c κs = ((c .before .before .before .before .before .before .before .before .before .before .pre, c .before .before .before .before .before .before .before .is-ring .ensures (not-false _ (c .before .before .before .before .before .before .if1 .left))), rw (c .before .before .room2 .given .1) at (c .before .before .before .before .room .ensures))
+insert-requires c κs =
+    let before = c .before .before .before .before .before .before .before .before .before .before in
+    let is-ring = c .before .before .before .before .before .before .before .is-ring in
+    let if1 = c .before .before .before .before .before .before .if1 in
+    let room = c .before .before .before .before .room in
+    let room2 = c .before .before .room2 in
+    ((before .pre, is-ring .ensures (not-false _ (if1 .left))), rw (room2 .given .1) at (room .ensures))
 
 same-length-2 : tie.Need-same-length-2
 same-length-2 c = search needs

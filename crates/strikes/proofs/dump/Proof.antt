@@ -1,6 +1,6 @@
 use borrow.Author.Needs.{needs}
 use Rattle.strikes.proofs.OnRegister.{words-there}
-use Rattle.strikes.proofs.OnDump.{dump-shut, dump-late, output-holds, dump-told}
+use Rattle.strikes.proofs.OnDump.{dump-shut, dump-turned-down, output-holds, dump-told}
 use Rattle.strikes.proofs.dump.Statement.{statement}
 use Rattle.strikes.proofs.dump.Tie as tie
 
@@ -15,7 +15,7 @@ dump-spec =
     (λ c. search needs)
     (λ c. search needs)
     (λ c κs. search words-there)
-    (λ c. search dump-late)
+    (λ c. search dump-turned-down)
     (λ c. search needs)
     (λ c. search needs)
     (λ c. search needs)

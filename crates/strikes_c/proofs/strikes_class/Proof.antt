@@ -3,8 +3,8 @@ use borrow.Author.Needs.{needs}
 use Rattle.strikes_c.proofs.strikes_class.Statement.{statement}
 use Rattle.strikes_c.proofs.strikes_class.Tie as tie
 
-totals-requires : tie.Need-totals-requires
-totals-requires c κs = search needs
+class-totals-requires : tie.Need-class-totals-requires
+class-totals-requires c κs = search needs
 
 send-requires : tie.Need-send-requires
 send-requires c κs = search needs
@@ -22,13 +22,19 @@ fourth-or-requires : tie.Need-fourth-or-requires
 fourth-or-requires c κs = search needs
 
 returns : tie.Need-returns
-returns c = read-out _ _ _ _ _ (c .before .before .before .before .before .before .before .before .send .ensures) _ _ (c .before .before .before .before .before .before .before .before .before .totals .ensures) (rw (c .before .before .before .before .before .before .first-or .ensures, c .before .before .before .before .second-or .ensures, c .before .before .third-or .ensures, c .fourth-or .ensures))
+returns c =
+    let class-totals = c .before .before .before .before .before .before .before .before .before .class-totals in
+    let send = c .before .before .before .before .before .before .before .before .send in
+    let first-or = c .before .before .before .before .before .before .first-or in
+    let second-or = c .before .before .before .before .second-or in
+    let third-or = c .before .before .third-or in
+    read-out _ _ _ _ _ (send .ensures) _ _ (class-totals .ensures) (rw (first-or .ensures, second-or .ensures, third-or .ensures, c .fourth-or .ensures))
 
 pub strikes-class-spec : {M : Type 1} → statement M
 strikes-class-spec =
     tie.close
     (tie.spec
-    totals-requires
+    class-totals-requires
     send-requires
     first-or-requires
     second-or-requires

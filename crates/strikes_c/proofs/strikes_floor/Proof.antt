@@ -16,7 +16,11 @@ second-or-requires : tie.Need-second-or-requires
 second-or-requires c κs = search needs
 
 returns : tie.Need-returns
-returns c = read-out _ _ _ _ _ (c .before .before .before .before .send .ensures) _ _ (c .before .before .before .before .before .floor .ensures) (rw (c .before .before .first-or .ensures, c .second-or .ensures))
+returns c =
+    let floor = c .before .before .before .before .before .floor in
+    let send = c .before .before .before .before .send in
+    let first-or = c .before .before .first-or in
+    read-out _ _ _ _ _ (send .ensures) _ _ (floor .ensures) (rw (first-or .ensures, c .second-or .ensures))
 
 pub strikes-floor-spec : {M : Type 1} → statement M
 strikes-floor-spec =

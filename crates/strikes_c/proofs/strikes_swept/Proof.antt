@@ -16,7 +16,11 @@ second-or-requires : tie.Need-second-or-requires
 second-or-requires c κs = search needs
 
 returns : tie.Need-returns
-returns c = read-out _ _ _ _ _ (c .before .before .before .before .send .ensures) _ _ (c .before .before .before .before .before .swept .ensures) (rw (c .before .before .first-or .ensures, c .second-or .ensures))
+returns c =
+    let swept = c .before .before .before .before .before .swept in
+    let send = c .before .before .before .before .send in
+    let first-or = c .before .before .first-or in
+    read-out _ _ _ _ _ (send .ensures) _ _ (swept .ensures) (rw (first-or .ensures, c .second-or .ensures))
 
 pub strikes-swept-spec : {M : Type 1} → statement M
 strikes-swept-spec =

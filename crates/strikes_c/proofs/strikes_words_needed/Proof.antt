@@ -13,10 +13,18 @@ words-needed-requires : tie.Need-words-needed-requires
 words-needed-requires c κs = search needs
 
 returns-2 : tie.Need-returns-2
-returns-2 c = none-needed (c .before .before .before .before .before .args .settings .now) (c .before .before .before .before .before .args .needed .now) (c .before .before .before .if1 .left) _ (c .before .before .settings-of .ensures) _ (c .before .words-needed .ensures) (c .if2 .taken)
+returns-2 c =
+    let s = c .before .before .before .before .before .args in
+    let if1 = c .before .before .before .if1 in
+    let settings-of = c .before .before .settings-of in
+    none-needed (s .settings .now) (s .needed .now) (if1 .left) _ (settings-of .ensures) _ (c .before .words-needed .ensures) (c .if2 .taken)
 
 returns-3 : tie.Need-returns-3
-returns-3 c = some-needed (c .before .before .before .before .before .args .settings .now) (c .before .before .before .before .before .args .needed .now) (c .before .before .before .if1 .left) _ (c .before .before .settings-of .ensures) _ (c .before .words-needed .ensures) (c .if2 .left)
+returns-3 c =
+    let s = c .before .before .before .before .before .args in
+    let if1 = c .before .before .before .if1 in
+    let settings-of = c .before .before .settings-of in
+    some-needed (s .settings .now) (s .needed .now) (if1 .left) _ (settings-of .ensures) _ (c .before .words-needed .ensures) (c .if2 .left)
 
 pub strikes-words-needed-spec : {M : Type 1} → statement M
 strikes-words-needed-spec =

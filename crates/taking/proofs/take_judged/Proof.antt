@@ -33,7 +33,11 @@ same-length : tie.Need-same-length
 same-length c = search needs
 
 returns : tie.Need-returns
-returns c = let t = c .before .before .before in let s = t .before .before .before .before .before in new-turns (s .args .s) (s .args .r) (asked-by (s .args .ask)) _ _ _ _ _ (t .before .before .enum-told .given .1) (rw (s .pre .1 .usable) at (t .ticket-of .ensures)) (c .before .before .take-share .ensures)
+returns c =
+    let t = c .before .before .before in
+    let take-share = c .before .before .take-share in
+    let s = t .before .before .before .before .before in
+    new-turns (s .args .s) (s .args .r) (asked-by (s .args .ask)) _ _ _ _ _ (t .before .before .enum-told .given .1) (rw (s .pre .1 .usable) at (t .ticket-of .ensures)) (take-share .ensures)
 
 returns-2 : tie.Need-returns-2
 returns-2 c = let s = c .before .before .before in let e = c .enum-told2 .given .1 in old-turns (s .args .s) (s .args .r) (asked-by (s .args .ask)) _ _ (λ z. no (cc))
@@ -51,4 +55,6 @@ returns-6 : tie.Need-returns-6
 returns-6 c = let s = c .before .before .before in let e = c .enum-told6 .given .1 in old-turns (s .args .s) (s .args .r) (asked-by (s .args .ask)) _ _ (λ z. no (cc))
 
 pub take-judged-spec : {M : Type 1} → statement M
-take-judged-spec = tie.close (tie.spec enum-told ticket-of-requires take-share-requires enum-told-2 enum-told-3 enum-told-4 enum-told-5 enum-told-6 same-length returns returns-2 returns-3 returns-4 returns-5 returns-6)
+take-judged-spec =
+    tie.close (tie.spec enum-told ticket-of-requires take-share-requires enum-told-2 enum-told-3 enum-told-4 enum-told-5 enum-told-6 same-length returns returns-2
+    returns-3 returns-4 returns-5 returns-6)

@@ -33,22 +33,40 @@ part-remove-end : tie.Need-part-remove-end
 part-remove-end c = search needs
 
 remove-requires : tie.Need-remove-requires
-remove-requires c κs = let ws = c .before .before .before .before .before .before .before .args .place .now in let w = c .before .before .before .before .before .before .before .pre .0 in let g = went ws (c .before .before .before .before .before .before .before .args .t) _ (c .before .earlier .ensures) in (w .few, (let k = g .few in omega arith), tail-long ws w)
+remove-requires c κs =
+    let s = c .before .before .before .before .before .before .before .args in
+    let pre = c .before .before .before .before .before .before .before .pre in
+    let ws = s .place .now in
+    let w = pre .0 in
+    let g = went ws (s .t) _ (c .before .earlier .ensures) in
+    (w .few, (let k = g .few in omega arith), tail-long ws w)
 
 sub-place : tie.Need-sub-place
-sub-place c = let g = went (c .before .before .before .before .before .before .before .before .before .before .args .place .now) (c .before .before .before .before .before .before .before .before .before .before .args .t) _ (c .before .before .before .before .earlier .ensures) in omega arith
+sub-place c =
+    let s = c .before .before .before .before .before .before .before .before .before .before .args in
+    let earlier = c .before .before .before .before .earlier in
+    let g = went (s .place .now) (s .t) _ (earlier .ensures) in
+    omega arith
 
 slice-write-place : tie.Need-slice-write-place
 slice-write-place c = search needs
 
 sub-place-2 : tie.Need-sub-place-2
-sub-place-2 c = let g = went (c .before .before .before .before .before .before .before .before .before .before .args .place .now) (c .before .before .before .before .before .before .before .before .before .before .args .t) _ (c .before .before .before .before .earlier .ensures) in omega arith
+sub-place-2 c =
+    let s = c .before .before .before .before .before .before .before .before .before .before .args in
+    let earlier = c .before .before .before .before .earlier in
+    let g = went (s .place .now) (s .t) _ (earlier .ensures) in
+    omega arith
 
 slice-write-place-2 : tie.Need-slice-write-place-2
 slice-write-place-2 c = simp length-set (omega arith)
 
 sub-t12 : tie.Need-sub-t12
-sub-t12 c = let g = went (c .before .before .before .before .before .before .before .before .before .before .args .place .now) (c .before .before .before .before .before .before .before .before .before .before .args .t) _ (c .before .before .before .before .earlier .ensures) in omega arith
+sub-t12 c =
+    let s = c .before .before .before .before .before .before .before .before .before .before .args in
+    let earlier = c .before .before .before .before .earlier in
+    let g = went (s .place .now) (s .t) _ (earlier .ensures) in
+    omega arith
 
 same-length : tie.Need-same-length
 same-length c = search needs

@@ -39,7 +39,10 @@ same-length : tie.Need-same-length
 same-length c = search needs
 
 returns : tie.Need-returns
-returns c = place-inserts (c .before .before .before .before .before .before .before .args .place .now) _ (c .before .before .before .before .before .before .before .args .k) (c .before .before .before .before .before .before .before .args .second) (c .before .before .insert .ensures)
+returns c =
+    let s = c .before .before .before .before .before .before .before .args in
+    let insert = c .before .before .insert in
+    place-inserts (s .place .now) _ (s .k) (s .second) (insert .ensures)
 
 pub insert-spec : {M : Type 1} → statement M
 insert-spec =

@@ -37,7 +37,11 @@ shared-slice-read-t18 : tie.Need-shared-slice-read-t18
 shared-slice-read-t18 c = search needs
 
 returns : tie.Need-returns
-returns c = looked (c .before .before .before .before .before .before .before .before .args .place .now) (c .before .before .before .before .before .before .before .before .args .second) _ _ (c .before .before .before .before .earlier .ensures) (c .before .before .has-second .ensures)
+returns c =
+    let s = c .before .before .before .before .before .before .before .before .args in
+    let earlier = c .before .before .before .before .earlier in
+    let has-second = c .before .before .has-second in
+    looked (s .place .now) (s .second) _ _ (earlier .ensures) (has-second .ensures)
 
 pub look-spec : {M : Type 1} → statement M
 look-spec =

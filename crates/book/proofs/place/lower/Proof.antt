@@ -31,7 +31,10 @@ same-length : tie.Need-same-length
 same-length c = search needs
 
 returns : tie.Need-returns
-returns c = place-lowers (c .before .before .before .before .before .before .before .args .place .now) _ (c .before .before .before .before .before .before .before .args .k) (c .before .before .lower .ensures)
+returns c =
+    let s = c .before .before .before .before .before .before .before .args in
+    let lower = c .before .before .lower in
+    place-lowers (s .place .now) _ (s .k) (lower .ensures)
 
 pub lower-spec : {M : Type 1} → statement M
 lower-spec =

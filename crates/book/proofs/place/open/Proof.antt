@@ -34,10 +34,18 @@ part-insert-end : tie.Need-part-insert-end
 part-insert-end c = search needs
 
 insert-requires : tie.Need-insert-requires
-insert-requires c κs = let s = c .before .before .before .before .args in (omega arith, omega arith, head-room (c .before .before .kind-word .result) (c .before .id-word .result) (s .place .now) (c .before .before .before .before .pre))
+insert-requires c κs =
+    let s = c .before .before .before .before .args in
+    let pre = c .before .before .before .before .pre in
+    let kind-word = c .before .before .kind-word in
+    (omega arith, omega arith, head-room (kind-word .result) (c .before .id-word .result) (s .place .now) pre)
 
 same-length : tie.Need-same-length
-same-length c = let s = c .before .before .before .before .before .before .before .args in c .before .place .given .1 ∙ head-long (c .before .before .before .before .before .kind-word .result) (c .before .before .before .before .id-word .result) (s .place .now)
+same-length c =
+    let s = c .before .before .before .before .before .before .before .args in
+    let kind-word = c .before .before .before .before .before .kind-word in
+    let id-word = c .before .before .before .before .id-word in
+    c .before .place .given .1 ∙ head-long (kind-word .result) (id-word .result) (s .place .now)
 
 returns : tie.Need-returns
 returns c =

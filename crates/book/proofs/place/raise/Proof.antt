@@ -31,7 +31,10 @@ same-length : tie.Need-same-length
 same-length c = search needs
 
 returns : tie.Need-returns
-returns c = place-raises (c .before .before .before .before .before .before .before .args .place .now) _ (c .before .before .before .before .before .before .before .args .k) (c .before .before .raise .ensures)
+returns c =
+    let s = c .before .before .before .before .before .before .before .args in
+    let raise = c .before .before .raise in
+    place-raises (s .place .now) _ (s .k) (raise .ensures)
 
 pub raise-spec : {M : Type 1} → statement M
 raise-spec =

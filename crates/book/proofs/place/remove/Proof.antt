@@ -39,7 +39,10 @@ same-length : tie.Need-same-length
 same-length c = search needs
 
 returns : tie.Need-returns
-returns c = place-removes (c .before .before .before .before .before .before .before .args .place .now) _ (c .before .before .before .before .before .before .before .args .k) (c .before .before .remove .ensures)
+returns c =
+    let s = c .before .before .before .before .before .before .before .args in
+    let remove = c .before .before .remove in
+    place-removes (s .place .now) _ (s .k) (remove .ensures)
 
 pub remove-spec : {M : Type 1} → statement M
 remove-spec =

@@ -59,7 +59,8 @@ stayed = (stay-ref (0 ∷ []) tt (plain (λ _. T.the-row)), (stay-none (λ _. u6
 abbrev Work : {M : Type 1} (𝓤 : URA M) (H : Heap 𝓤) (A : Atoms 𝓤) (mem : Memory → SProp 𝓤) (run : Routine → Fun 𝓤) → Contract 𝓤
 Work 𝓤 H A mem run = tripleOf 𝓤 H A work.signature (work.spec 𝓤 H A mem run)
 
-module _ {M : Type 1} (𝓤 : URA M) (H : Heap 𝓤) (A : Atoms 𝓤) (W : Given 𝓤 H A) (at-mem : Memory → SProp 𝓤) (run : Routine → Fun 𝓤) (κ : Lft) (q : Share) (b o : ℕ) (γ : GName) (h : Totals) (n₁ n₂ n₃ n₄ : ℕ) (g₁ : n₁ < 2 ^ 64) (g₂ : n₂ < 2 ^ 64) (g₃ : n₃ < 2 ^ 64) (g₄ : n₄ < 2 ^ 64) where
+module _ {M : Type 1} (𝓤 : URA M) (H : Heap 𝓤) (A : Atoms 𝓤) (W : Given 𝓤 H A) (at-mem : Memory → SProp 𝓤) (run : Routine → Fun 𝓤) (κ : Lft) (q : Share) (b o : ℕ)
+    (γ : GName) (h : Totals) (n₁ n₂ n₃ n₄ : ℕ) (g₁ : n₁ < 2 ^ 64) (g₂ : n₂ < 2 ^ 64) (g₃ : n₃ < 2 ^ 64) (g₄ : n₄ < 2 ^ 64) where
   abbrev x : RefT Totals × (ℕ × (ℕ × (ℕ × (ℕ × Unit {0}))))
   x = (record { ptr = (b, o); name = γ; now = h }, (n₁, (n₂, (n₃, (n₄, tt)))))
 
@@ -75,7 +76,9 @@ module _ {M : Type 1} (𝓤 : URA M) (H : Heap 𝓤) (A : Atoms 𝓤) (W : Given
 
   goes : CanExpire h n₁ n₂ n₃ → ent 𝓤 (sem 𝓤 H A (T.the-row .own h (mach h ∷ []))) (Work 𝓤 H A at-mem run .pre to-work)
   goes asks =
-      qed W (‵ (T.the-row .own h (mach h ∷ [])) ∷ []) ∵ says ! asks $ nothing ! $ move ! (1 ∷ []) $ nothing ! $ owned ! u64 (Is u64) (uint-makes 𝓤 H A W w64) n₄ _ (refl, g₄) $ fjoin ! $ owned ! u64 (Is u64) (uint-makes 𝓤 H A W w64) n₃ _ (refl, g₃) $ fjoin ! $ owned ! u64 (Is u64) (uint-makes 𝓤 H A W w64) n₂ _ (refl, g₂) $ fjoin ! $ owned ! u64 (Is u64) (uint-makes 𝓤 H A W w64) n₁ _ (refl, g₁) $ fjoin ! $ move ! (1 ∷ 0 ∷ []) $ fjoin ! $ move ! (1 ∷ 0 ∷ []) $ join ! $ done !
+      qed W (‵ (T.the-row .own h (mach h ∷ [])) ∷ []) ∵ says ! asks $ nothing ! $ move ! (1 ∷ []) $ nothing ! $ owned ! u64 (Is u64) (uint-makes 𝓤 H A W w64) n₄ _
+      (refl, g₄) $ fjoin ! $ owned ! u64 (Is u64) (uint-makes 𝓤 H A W w64) n₃ _ (refl, g₃) $ fjoin ! $ owned ! u64 (Is u64) (uint-makes 𝓤 H A W w64) n₂ _ (refl, g₂) $
+      fjoin ! $ owned ! u64 (Is u64) (uint-makes 𝓤 H A W w64) n₁ _ (refl, g₁) $ fjoin ! $ move ! (1 ∷ 0 ∷ []) $ fjoin ! $ move ! (1 ∷ 0 ∷ []) $ join ! $ done !
 
   said : (r : Totals) → ent 𝓤 (ensured 𝓤 H A work.ended (work.clauses 𝓤 H A at-mem run) tt (h, (n₁, (n₂, (n₃, (n₄, tt))))) tt r) (fact 𝓤 (r ≡ expired-to h n₁ n₂ n₃ n₄))
   said r = exE 𝓤 _ (λ ws. snd∗ 𝓤 (sem 𝓤 H A (lasts work.ended tt (h, (n₁, (n₂, (n₃, (n₄, tt))))) ws)) (fact 𝓤 (r ≡ expired-to h n₁ n₂ n₃ n₄)))
@@ -83,15 +86,22 @@ module _ {M : Type 1} (𝓤 : URA M) (H : Heap 𝓤) (A : Atoms 𝓤) (W : Given
   exits : (r : Totals) → r ≡ expired-to h n₁ n₂ n₃ n₄ → ent 𝓤 (sep 𝓤 (A .obs γ (T.the-row .coded .code r)) (sep 𝓤 (A .bor κ (Body (mem T.the-row) b o γ)) (A .lft κ q))) (Post vunit)
   exits r e =
       qed W (‵ (fobs γ (T.the-row .coded .code r)) ∷ ‵ (fbor κ (Body (mem T.the-row) b o γ)) ∷ ‵ (flft κ q) ∷ []) ∵
-      suffices ! _ (ends-at 𝓤 H A f.ended stayed (f.clauses 𝓤 H A at-mem run) W (((κ, tt), (q, tt), tt, x, at), tt) vunit tt (r, (tt, (tt, (tt, (tt, tt))))) (tt, (tt, (tt, (tt, (tt, tt)))))) $ says ! e $ nothing ! $ move ! (3 ∷ 0 ∷ []) $ join ! $
-      frame ! $ feqI ! (List Val) (vptr b o ∷ []) (vptr b o ∷ []) refl $ fjoin3 ! $ nothing ! $ owned ! u64 (Is u64) (uint-makes 𝓤 H A W w64) n₄ _ (refl, g₄) $ fjoin ! $ owned ! u64 (Is u64) (uint-makes 𝓤 H A W w64) n₃ _ (refl, g₃) $ fjoin ! $ owned ! u64 (Is u64) (uint-makes 𝓤 H A W w64) n₂ _ (refl, g₂) $ fjoin ! $ owned ! u64 (Is u64) (uint-makes 𝓤 H A W w64) n₁ _ (refl, g₁) $ fjoin ! $ move ! (1 ∷ 0 ∷ []) $ fjoin ! $
+      suffices ! _ (ends-at 𝓤 H A f.ended stayed (f.clauses 𝓤 H A at-mem run) W (((κ, tt), (q, tt), tt, x, at), tt) vunit tt (r, (tt, (tt, (tt, (tt, tt)))))
+      (tt, (tt, (tt, (tt, (tt, tt)))))) $ says ! e $ nothing ! $ move ! (3 ∷ 0 ∷ []) $ join ! $
+      frame ! $ feqI ! (List Val) (vptr b o ∷ []) (vptr b o ∷ []) refl $ fjoin3 ! $ nothing ! $ owned ! u64 (Is u64) (uint-makes 𝓤 H A W w64) n₄ _ (refl, g₄) $ fjoin ! $
+      owned ! u64 (Is u64) (uint-makes 𝓤 H A W w64) n₃ _ (refl, g₃) $ fjoin ! $ owned ! u64 (Is u64) (uint-makes 𝓤 H A W w64) n₂ _ (refl, g₂) $ fjoin ! $ owned ! u64
+      (Is u64) (uint-makes 𝓤 H A W w64) n₁ _ (refl, g₁) $ fjoin ! $ move ! (1 ∷ 0 ∷ []) $ fjoin ! $
       feqI ! (List Val) (vunit ∷ []) (vunit ∷ []) refl $ move ! (1 ∷ 0 ∷ []) $ done !
 
   module _ (C : Calls 𝓤 H) (Λ : Loops 𝓤 H) (fm : FmC 𝓤 H (W .laws) C) (known : Triple 𝓤 (C #work) (Work 𝓤 H A at-mem run)) where
     walk : CanExpire h n₁ n₂ n₃ → ent 𝓤 (onEntry 𝓤 H A f.signature (κ, tt) (q, tt) x at) (WpFn 𝓤 H C Λ code.function (vptr b o ∷ vint w64 n₁ ∷ vint w64 n₂ ∷ vint w64 n₃ ∷ vint w64 n₄ ∷ []) Post)
     walk asks =
-        qed W ((‵ (flft κ q) ⊛ ‵ ftrue) ∷ ‵ (owns (MutRef (named 0) κ T.the-row ∷ u64 ∷ u64 ∷ u64 ∷ u64 ∷ []) x at) ∷ []) ∵ enter ! C Λ code.function (vptr b o ∷ vint w64 n₁ ∷ vint w64 n₂ ∷ vint w64 n₃ ∷ vint w64 n₄ ∷ []) _ $
-        alloc1 ! (λ l₀. alloc1 ! (λ l₁. alloc1 ! (λ l₂. alloc1 ! (λ l₃. alloc1 ! (λ l₄. alloc1 ! (λ l₅. alloc1 ! (λ l₆. alloc1 ! (λ l₇. alloc0 ! $ params1 ! $ pass1 ! (init ! 12 refl (tt, tt)) $ pass1 ! (init ! 10 refl (tt, record { fits = g₁ })) $ pass1 ! (init ! 8 refl (tt, record { fits = g₂ })) $ pass1 ! (init ! 6 refl (tt, record { fits = g₃ })) $ pass1 ! (init ! 4 refl (tt, record { fits = g₄ })) $ pass0 ! $
+        qed W ((‵ (flft κ q) ⊛ ‵ ftrue) ∷ ‵ (owns (MutRef (named 0) κ T.the-row ∷ u64 ∷ u64 ∷ u64 ∷ u64 ∷ []) x at) ∷ []) ∵ enter ! C Λ code.function
+        (vptr b o ∷ vint w64 n₁ ∷ vint w64 n₂ ∷ vint w64 n₃ ∷ vint w64 n₄ ∷ []) _ $
+        alloc1 ! (λ l₀. alloc1 ! (λ l₁. alloc1 ! (λ l₂. alloc1 ! (λ l₃. alloc1 !
+        (λ l₄. alloc1 ! (λ l₅. alloc1 ! (λ l₆. alloc1 ! (λ l₇. alloc0 ! $ params1 ! $ pass1 ! (init ! 12 refl (tt, tt)) $ pass1 !
+        (init ! 10 refl (tt, record { fits = g₁ })) $ pass1 ! (init ! 8 refl (tt, record { fits = g₂ })) $ pass1 ! (init ! 6 refl (tt, record { fits = g₃ })) $ pass1 !
+        (init ! 4 refl (tt, record { fits = g₄ })) $ pass0 ! $
         -- the borrow is opened
         move ! (17 ∷ []) $ fsplit ! $ fsplit3 ! $ drop ! $ move ! (19 ∷ []) $ split ! $ move ! (2 ∷ 3 ∷ 0 ∷ []) $
         opens ! tt T.the-row {h = h} b o (λ vs. spelt ! T.the-row (Is T.the-row) (shows 𝓤 H A T.the-row) (LL.vals T.the-type T′.the-laws) (LL.tells T.the-type T′.the-laws) fullShare h vs b o $
@@ -99,8 +109,11 @@ module _ {M : Type 1} (𝓤 : URA M) (H : Heap 𝓤) (A : Atoms 𝓤) (W : Given
         -- [the struct's cell; what a Totals owns; the open borrow; obs; auth; true; what the numbers own; _7; …; _6; …; _5; …; _4; …; _3; …; _2; …; _1; …; room for _0; …]
         assigns ! (of-opd ! (load ! (from ! (hop ! (look ! 19 refl) (stop !))) (look-raw ! 0 refl))) (from ! (stop !)) (init ! 7 refl (LL.lawful T.the-type T′.the-laws 𝓤 H A W .typed h _ was .0)) $
         move ! (1 ∷ []) $ use1 W (raw (Work 𝓤 H A at-mem run .pre to-work)) (goes asks) $
-        calls-at ! fm (Work 𝓤 H A at-mem run) known to-work (and-then ! (load ! (from ! (stop !)) (look ! 7 refl)) (and-then ! (load ! (from ! (stop !)) (look ! 17 refl)) (and-then ! (load ! (from ! (stop !)) (look ! 15 refl)) (and-then ! (load ! (from ! (stop !)) (look ! 13 refl)) (and-then ! (load ! (from ! (stop !)) (look ! 11 refl)) (no-more !)))))) (λ v.
-        use1 W (later (some (λ (r : Totals). (‵ ftrue ⊛ ‵ (T.the-row .own r (v ∷ []))) ⊛ raw (ensured 𝓤 H A work.ended (work.clauses 𝓤 H A at-mem run) tt (h, (n₁, (n₂, (n₃, (n₄, tt))))) tt r)))) (id⊢ 𝓤 _) $ await ! tt $ pick ! (λ r.
+        calls-at ! fm (Work 𝓤 H A at-mem run) known to-work (and-then ! (load ! (from ! (stop !)) (look ! 7 refl))
+        (and-then ! (load ! (from ! (stop !)) (look ! 17 refl)) (and-then ! (load ! (from ! (stop !)) (look ! 15 refl))
+        (and-then ! (load ! (from ! (stop !)) (look ! 13 refl)) (and-then ! (load ! (from ! (stop !)) (look ! 11 refl)) (no-more !)))))) (λ v.
+        use1 W (later (some (λ (r : Totals). (‵ ftrue ⊛ ‵ (T.the-row .own r (v ∷ []))) ⊛ raw
+        (ensured 𝓤 H A work.ended (work.clauses 𝓤 H A at-mem run) tt (h, (n₁, (n₂, (n₃, (n₄, tt))))) tt r)))) (id⊢ 𝓤 _) $ await ! tt $ pick ! (λ r.
         split ! $ move ! (1 ∷ []) $ use1 W (raw (fact 𝓤 (r ≡ expired-to h n₁ n₂ n₃ n₄))) (said r) $ heard ! (r ≡ expired-to h n₁ n₂ n₃ n₄) (λ e. split ! $ drop ! $
         peeks ! T.the-row (Is T.the-row) (shows 𝓤 H A T.the-row) r (v ∷ []) (λ is.
         -- [what the result owns; the struct's cell; the open borrow; obs; auth; true; what the numbers own; _7; …; room for _6; …; _5; …; _4; …; _3; …; _2; …; _1; …; room for _0; …]
@@ -110,21 +123,34 @@ module _ {M : Type 1} (𝓤 : URA M) (H : Heap 𝓤) (A : Atoms 𝓤) (W : Given
         move ! (1 ∷ 0 ∷ []) $ closes ! tt T.the-row r (v ∷ []) b o $
         -- [obs; the borrow; the token; true; what the numbers own; _7; …; _6; …; _5; …; _4; …; _3; …; _2; …; _1; …; _0; …]
         returns ! (look ! 19 refl) $ forget ! 5 refl $ forget ! 7 refl $ forget ! 9 refl $ forget ! 11 refl $ forget ! 13 refl $ forget ! 15 refl $ forget ! 17 refl $ forget ! 19 refl $
-        move ! (19 ∷ 20 ∷ []) $ free1 ! $ move ! (17 ∷ 18 ∷ []) $ free1 ! $ move ! (15 ∷ 16 ∷ []) $ free1 ! $ move ! (13 ∷ 14 ∷ []) $ free1 ! $ move ! (11 ∷ 12 ∷ []) $ free1 ! $ move ! (9 ∷ 10 ∷ []) $ free1 ! $ move ! (7 ∷ 8 ∷ []) $ free1 ! $ move ! (5 ∷ 6 ∷ []) $ free1 ! $ free0 ! $
+        move ! (19 ∷ 20 ∷ []) $ free1 ! $ move ! (17 ∷ 18 ∷ []) $ free1 ! $ move ! (15 ∷ 16 ∷ []) $ free1 ! $ move ! (13 ∷ 14 ∷ []) $ free1 ! $ move ! (11 ∷ 12 ∷ []) $
+        free1 ! $ move ! (9 ∷ 10 ∷ []) $ free1 ! $ move ! (7 ∷ 8 ∷ []) $ free1 ! $ move ! (5 ∷ 6 ∷ []) $ free1 ! $ free0 ! $
         keep ! (0 ∷ 1 ∷ 2 ∷ []) $ by ! (exits r e)))))))))))))))
 
 module _ {M : Type 1} (𝓤 : URA M) (H : Heap 𝓤) (A : Atoms 𝓤) (W : Given 𝓤 H A) (at-mem : Memory → SProp 𝓤) (run : Routine → Fun 𝓤) where
   f-walks : (C : Calls 𝓤 H) (Λ : Loops 𝓤 H) → FmC 𝓤 H (W .laws) C → Triple 𝓤 (C #work) (Work 𝓤 H A at-mem run) → Walks 𝓤 H A f.ended stayed (WpFn 𝓤 H C Λ code.function) (f.clauses 𝓤 H A at-mem run)
-  f-walks C Λ fm known = walked 𝓤 H A f.ended stayed (f.clauses 𝓤 H A at-mem run) (WpFn 𝓤 H C Λ code.function) (λ κs. (ptr-vals, (uint-vals w64, (uint-vals w64, (uint-vals w64, (uint-vals w64, tt)))))) (λ κs. (mut-tells (named 0) (κs .0) T.the-row, (uint-tells w64, (uint-tells w64, (uint-tells w64, (uint-tells w64, tt))))))
+  f-walks C Λ fm known =
+      walked 𝓤 H A f.ended stayed (f.clauses 𝓤 H A at-mem run) (WpFn 𝓤 H C Λ code.function)
+      (λ κs. (ptr-vals, (uint-vals w64, (uint-vals w64, (uint-vals w64, (uint-vals w64, tt))))))
+      (λ κs. (mut-tells (named 0) (κs .0) T.the-row, (uint-tells w64, (uint-tells w64, (uint-tells w64, (uint-tells w64, tt))))))
       (λ κs qs bounds a g are. needs 𝓤 (CanExpire (a .0 .now) (a .1 .0) (a .1 .1 .0) (a .1 .1 .1 .0)) _
-      (walk 𝓤 H A W at-mem run (κs .0) (qs .0) (a .0 .ptr .0) (a .0 .ptr .1) (a .0 .name) (a .0 .now) (a .1 .0) (a .1 .1 .0) (a .1 .1 .1 .0) (a .1 .1 .1 .1 .0) (are .1 .0 .1) (are .1 .1 .0 .1) (are .1 .1 .1 .0 .1) (are .1 .1 .1 .1 .0 .1) C Λ fm known))
+      (walk 𝓤 H A W at-mem run (κs .0) (qs .0) (a .0 .ptr .0) (a .0 .ptr .1) (a .0 .name) (a .0 .now) (a .1 .0) (a .1 .1 .0) (a .1 .1 .1 .0) (a .1 .1 .1 .1 .0)
+      (are .1 .0 .1) (are .1 .1 .0 .1) (are .1 .1 .1 .0 .1) (are .1 .1 .1 .1 .0 .1) C Λ fm known))
 
   f-go : AllGo 𝓤 H A W 1 (f.signature .params) (f.ended .kept) stayed
-  f-go = (goes-ref 𝓤 H A W 1 0 tt (plain (λ _. T.the-row)), (goes-none 𝓤 H A W 1 (λ _. u64) yes (λ κs x f. refl), (goes-none 𝓤 H A W 1 (λ _. u64) yes (λ κs x f. refl), (goes-none 𝓤 H A W 1 (λ _. u64) yes (λ κs x f. refl), (goes-none 𝓤 H A W 1 (λ _. u64) yes (λ κs x f. refl), tt)))))
+  f-go = (
+    goes-ref 𝓤 H A W 1 0 tt (plain (λ _. T.the-row)),
+    (
+      goes-none 𝓤 H A W 1 (λ _. u64) yes (λ κs x f. refl),
+      (goes-none 𝓤 H A W 1 (λ _. u64) yes (λ κs x f. refl), (goes-none 𝓤 H A W 1 (λ _. u64) yes (λ κs x f. refl), (goes-none 𝓤 H A W 1 (λ _. u64) yes (λ κs x f. refl), tt))),
+    ),
+  )
 
 f-meets : {M : Type 1} (𝓤 : URA M) (H : Heap 𝓤) (A : Atoms 𝓤) → Given 𝓤 H A → (at-mem : Memory → SProp 𝓤) (run : Routine → Fun 𝓤) (𝓣 : Tables 𝓤 H) → Triple 𝓤 (𝓣 .C #work) (Work 𝓤 H A at-mem run)
     → Meets 𝓤 H A f.signature (WpFn 𝓤 H (𝓣 .C) (𝓣 .Λ) code.function) (f.spec 𝓤 H A at-mem run)
-f-meets 𝓤 H A W at-mem run 𝓣 known = walk-meets 𝓤 H A f.ended stayed W (f-go 𝓤 H A W at-mem run) (f.clauses 𝓤 H A at-mem run) (WpFn 𝓤 H (𝓣 .C) (𝓣 .Λ) code.function) (WpFn-mono 𝓤 H (W .laws) 𝓣 code.function) (f-walks 𝓤 H A W at-mem run (𝓣 .C) (𝓣 .Λ) (fmOf 𝓤 H (W .laws) 𝓣) known)
+f-meets 𝓤 H A W at-mem run 𝓣 known =
+    walk-meets 𝓤 H A f.ended stayed W (f-go 𝓤 H A W at-mem run) (f.clauses 𝓤 H A at-mem run) (WpFn 𝓤 H (𝓣 .C) (𝓣 .Λ) code.function)
+    (WpFn-mono 𝓤 H (W .laws) 𝓣 code.function) (f-walks 𝓤 H A W at-mem run (𝓣 .C) (𝓣 .Λ) (fmOf 𝓤 H (W .laws) 𝓣) known)
 
 pub expire-spec : {M : Type 1} → stated.statement M
 unfolding code.routine tablesOf

@@ -24,8 +24,14 @@ slice-write-out c = search needs
 
 loop-holds : tie.Need-loop-holds Inv-loop μ-loop
 loop-holds c = let s = c .before .before .args in
-    let b : s .n ≤ 18446744073709551615 = omega arith in
-    (omega arith, length-set (s .out .now) 19 _ ∙ c .before .before .pre, omega (arith, tens-19), omega arith, rw (c .digit .ensures) (write-on (s .out .now) 20 (s .n) (s .n) (omega arith) (omega arith) b (read-end (s .out .now) 20 (Is (s .n)) (omega arith))))
+    let b : s .n ≤ 18446744073709551615 = omega arith in (
+      omega arith,
+      length-set (s .out .now) 19 _ ∙ c .before .before .pre,
+      omega (arith, tens-19),
+      omega arith,
+      rw (c .digit .ensures)
+          (write-on (s .out .now) 20 (s .n) (s .n) (omega arith) (omega arith) b (read-end (s .out .now) 20 (Is (s .n)) (omega arith))),
+    )
 
 sub-i : tie.Need-sub-i Inv-loop μ-loop
 sub-i c = let l = c .before .loop in omega (arith, room (l .i) (l .rest) (c .loop-test .taken) (l .inv .2))
@@ -42,8 +48,14 @@ loop-less c = search needs
 loop-again : tie.Need-loop-again Inv-loop μ-loop
 loop-again c = let l = c .before .before .loop in
     let s = c .before .before .before .before .before .args in
-    let p = room (l .i) (l .rest) (c .before .loop-test .taken) (l .inv .2) in
-    (omega arith, length-set (l .out) _ _ ∙ l .inv .1, room-on (l .i) (l .rest) p (l .inv .2), omega arith, rw (c .digit2 .ensures) (write-on (l .out) (l .i) (s .n) (l .rest) p (omega arith) (l .inv .3) (l .inv .4)))
+    let p = room (l .i) (l .rest) (c .before .loop-test .taken) (l .inv .2) in (
+      omega arith,
+      length-set (l .out) _ _ ∙ l .inv .1,
+      room-on (l .i) (l .rest) p (l .inv .2),
+      omega arith,
+      rw (c .digit2 .ensures)
+          (write-on (l .out) (l .i) (s .n) (l .rest) p (omega arith) (l .inv .3) (l .inv .4)),
+    )
 
 same-length : tie.Need-same-length Inv-loop μ-loop
 same-length c = search needs

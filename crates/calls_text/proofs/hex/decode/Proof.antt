@@ -64,8 +64,14 @@ loop-less c = search needs
 
 loop-again : tie.Need-loop-again Inv-loop μ-loop
 loop-again c = let l = c .before .before .before .before .before .before .before .loop in
-    let s = c .before .before .before .before .before .before .before .before .before .before .args in
-    (omega arith, length-set (l .out) (l .i) _ ∙ l .inv .1, all-on (s .text .now) (l .out) (l .i) (l .all) _ _ (omega arith) (c .before .before .before .is-hex .ensures) (c .before .before .is-hex2 .ensures) (l .inv .2), bytes-on (s .text .now) (l .out) (l .i) _ (omega arith) (omega arith) (rw (c .before .value .ensures .0, c .value2 .ensures .0)) (l .inv .3))
+    let s = c .before .before .before .before .before .before .before .before .before .before .args in (
+      omega arith,
+      length-set (l .out) (l .i) _ ∙ l .inv .1,
+      all-on (s .text .now) (l .out) (l .i) (l .all) _ _ (omega arith) (c .before .before .before .is-hex .ensures)
+          (c .before .before .is-hex2 .ensures) (l .inv .2),
+      bytes-on (s .text .now) (l .out) (l .i) _ (omega arith) (omega arith)
+          (rw (c .before .value .ensures .0, c .value2 .ensures .0)) (l .inv .3),
+    )
 
 same-length : tie.Need-same-length Inv-loop μ-loop
 same-length c = search needs

@@ -51,8 +51,12 @@ loop-less c = search needs
 
 loop-again : tie.Need-loop-again Inv-loop μ-loop
 loop-again c = let l = c .before .before .before .before .loop in
-    let s = c .before .before .before .before .before .before .before .args in
-    (omega arith, length-set (set (l .out) (l .i * 2) _) (l .i * 2 + 1) _ ∙ length-set (l .out) (l .i * 2) _ ∙ l .inv .1, hex-on (s .bytes .now) (l .out) (l .i) (l .inv .2) _ _ (omega arith) (omega arith) (c .before .digit .ensures) (c .digit2 .ensures))
+    let s = c .before .before .before .before .before .before .before .args in (
+      omega arith,
+      length-set (set (l .out) (l .i * 2) _) (l .i * 2 + 1) _ ∙ length-set (l .out) (l .i * 2) _ ∙ l .inv .1,
+      hex-on (s .bytes .now) (l .out) (l .i)
+          (l .inv .2) _ _ (omega arith) (omega arith) (c .before .digit .ensures) (c .digit2 .ensures),
+    )
 
 same-length : tie.Need-same-length Inv-loop μ-loop
 same-length c = search needs

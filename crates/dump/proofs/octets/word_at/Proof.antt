@@ -125,7 +125,8 @@ returns c =
     let a = b .before .before in
     let z = a .before .before in
     let s = z .before .before .before in
-    number-at (s .args .bytes .now) (s .args .at) _ _ _ _ _ _ _ _ (s .pre) (z .wide .ensures .0) (a .wide2 .ensures .0) (b .wide3 .ensures .0) (d .wide4 .ensures .0) (e .wide5 .ensures .0) (f .wide6 .ensures .0) (g .wide7 .ensures .0) (c .wide8 .ensures .0)
+    number-at (s .args .bytes .now) (s .args .at) _ _ _ _ _ _ _ _ (s .pre) (z .wide .ensures .0) (a .wide2 .ensures .0) (b .wide3 .ensures .0) (d .wide4 .ensures .0)
+    (e .wide5 .ensures .0) (f .wide6 .ensures .0) (g .wide7 .ensures .0) (c .wide8 .ensures .0)
 
 pub word-at-spec : {M : Type 1} → statement M
 word-at-spec =

@@ -16,10 +16,25 @@ read-requires-3 : tie.Need-read-requires-3
 read-requires-3 c κs = search needs
 
 add-t8 : tie.Need-add-t8
-add-t8 c = let t = three-read (words-of (c .before .before .before .before .before .args .bytes .now)) (c .before .before .before .before .before .args .at) _ _ _ (c .before .before .before .read .ensures) (c .before .before .read2 .ensures) (c .before .read3 .ensures) in let w = t .1 in let n = t .2 in let h = c .before .before .before .before .before .pre in record { fits = omega arith }
+add-t8 c =
+    let s = c .before .before .before .before .before .args in
+    let h = c .before .before .before .before .before .pre in
+    let read = c .before .before .before .read in
+    let read2 = c .before .before .read2 in
+    let t = three-read (words-of (s .bytes .now)) (s .at) _ _ _ (read .ensures) (read2 .ensures) (c .before .read3 .ensures) in
+    let w = t .1 in
+    let n = t .2 in
+    record { fits = omega arith }
 
 returns : tie.Need-returns
-returns c = let t = three-read (words-of (c .before .before .before .before .before .args .bytes .now)) (c .before .before .before .before .before .args .at) _ _ _ (c .before .before .before .read .ensures) (c .before .before .read2 .ensures) (c .before .read3 .ensures) in let w = t .1 in let n = t .2 in record { bucket = c .before .before .before .read .ensures .0; newest = t .0; length = t .1; next = omega arith }
+returns c =
+    let s = c .before .before .before .before .before .args in
+    let read = c .before .before .before .read in
+    let read2 = c .before .before .read2 in
+    let t = three-read (words-of (s .bytes .now)) (s .at) _ _ _ (read .ensures) (read2 .ensures) (c .before .read3 .ensures) in
+    let w = t .1 in
+    let n = t .2 in
+    record { bucket = read .ensures .0; newest = t .0; length = t .1; next = omega arith }
 
 pub generation-at-spec : {M : Type 1} → statement M
 generation-at-spec =

@@ -62,8 +62,11 @@ loop-again : tie.Need-loop-again Inv-loop μ-loop
 loop-again c =
     let l = c .before .before .before in
     let s = l .before .before in
-    let ws = s .args .words .now in
-    (rest-on (s .args .wide) ws (l .loop .a) (l .loop .left) (omega arith) (l .loop .inv .0), omega (arith, held-step (s .args .wide) ws (l .loop .a) (l .loop .left) (omega arith), l .loop .inv .1, c .one-if-held .ensures))
+    let ws = s .args .words .now in (
+      rest-on (s .args .wide) ws (l .loop .a) (l .loop .left) (omega arith) (l .loop .inv .0),
+      omega
+          (arith, held-step (s .args .wide) ws (l .loop .a) (l .loop .left) (omega arith), l .loop .inv .1, c .one-if-held .ensures),
+    )
 
 returns : tie.Need-returns Inv-loop μ-loop
 returns c =

@@ -49,8 +49,11 @@ put-class-requires c κs =
     let s = f .before .before .before .before .before in
     let k = s .args .wide in
     let n = s .args .ring in
-    let ws = s .args .words .now in
-    (feeders-laid k n ws (s .pre .0 .feeders), feeders-fit k n ws (feeders-lent k n ws) (peers-lent k n ws) (own-lent k n ws) (feeders-are k n ws) (peers-are k n ws) (own-are k n ws) (s .pre .1) (f .floor-told .ensures) (w .put-word .ensures))
+    let ws = s .args .words .now in (
+      feeders-laid k n ws (s .pre .0 .feeders),
+      feeders-fit k n ws (feeders-lent k n ws) (peers-lent k n ws) (own-lent k n ws) (feeders-are k n ws) (peers-are k n ws)
+          (own-are k n ws) (s .pre .1) (f .floor-told .ensures) (w .put-word .ensures),
+    )
 
 mul-put-class : tie.Need-mul-put-class
 mul-put-class c = search needs
@@ -72,8 +75,11 @@ put-class-requires-2 c κs =
     let s = f .before .before .before .before .before in
     let k = s .args .wide in
     let n = s .args .ring in
-    let ws = s .args .words .now in
-    (peers-laid k n ws (s .pre .0 .peers), peers-fit k n ws (feeders-lent k n ws) (peers-lent k n ws) (own-lent k n ws) (feeders-are k n ws) (peers-are k n ws) (own-are k n ws) (s .pre .1) (f .floor-told .ensures) (w .put-word .ensures) (a .put-class .ensures))
+    let ws = s .args .words .now in (
+      peers-laid k n ws (s .pre .0 .peers),
+      peers-fit k n ws (feeders-lent k n ws) (peers-lent k n ws) (own-lent k n ws) (feeders-are k n ws) (peers-are k n ws)
+          (own-are k n ws) (s .pre .1) (f .floor-told .ensures) (w .put-word .ensures) (a .put-class .ensures),
+    )
 
 mul-put-class-2 : tie.Need-mul-put-class-2
 mul-put-class-2 c = search needs
@@ -96,8 +102,11 @@ put-class-requires-3 c κs =
     let s = f .before .before .before .before .before in
     let k = s .args .wide in
     let n = s .args .ring in
-    let ws = s .args .words .now in
-    (own-laid k n ws (s .pre .0 .own), own-fits k n ws (feeders-lent k n ws) (peers-lent k n ws) (own-lent k n ws) (feeders-are k n ws) (peers-are k n ws) (own-are k n ws) (s .pre .1) (f .floor-told .ensures) (w .put-word .ensures) (a .put-class .ensures) (b .put-class2 .ensures))
+    let ws = s .args .words .now in (
+      own-laid k n ws (s .pre .0 .own),
+      own-fits k n ws (feeders-lent k n ws) (peers-lent k n ws) (own-lent k n ws) (feeders-are k n ws) (peers-are k n ws)
+          (own-are k n ws) (s .pre .1) (f .floor-told .ensures) (w .put-word .ensures) (a .put-class .ensures) (b .put-class2 .ensures),
+    )
 
 same-length : tie.Need-same-length
 same-length c = search needs
@@ -113,7 +122,8 @@ returns c =
     let k = s .args .wide in
     let n = s .args .ring in
     let ws = s .args .words .now in
-    dump-puts k n ws (feeders-lent k n ws) (peers-lent k n ws) (own-lent k n ws) (feeders-are k n ws) (peers-are k n ws) (own-are k n ws) (s .pre .1) (f .floor-told .ensures) (w .put-word .ensures) (a .put-class .ensures) (b .put-class2 .ensures) (o .put-class3 .ensures)
+    dump-puts k n ws (feeders-lent k n ws) (peers-lent k n ws) (own-lent k n ws) (feeders-are k n ws) (peers-are k n ws) (own-are k n ws) (s .pre .1)
+    (f .floor-told .ensures) (w .put-word .ensures) (a .put-class .ensures) (b .put-class2 .ensures) (o .put-class3 .ensures)
 
 pub put-dump-spec : {M : Type 1} → statement M
 put-dump-spec =

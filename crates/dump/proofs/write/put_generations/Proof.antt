@@ -56,8 +56,11 @@ loop-less c = search needs
 loop-again : tie.Need-loop-again Inv-loop μ-loop
 loop-again c =
     let l = c .before .before .before .before .before .before in
-    let s = l .before .before .before .args in
-    (rest-on (s .wide) (s .words .now) (l .loop .a) (l .loop .left) (omega arith) (l .loop .inv .0), part-on (s .wide) (s .words .now) (l .loop .a) (l .loop .left) (omega arith) (l .loop .inv .1) (c .before .before .put-generation .ensures))
+    let s = l .before .before .before .args in (
+      rest-on (s .wide) (s .words .now) (l .loop .a) (l .loop .left) (omega arith) (l .loop .inv .0),
+      part-on (s .wide) (s .words .now) (l .loop .a) (l .loop .left)
+          (omega arith) (l .loop .inv .1) (c .before .before .put-generation .ensures),
+    )
 
 same-length : tie.Need-same-length Inv-loop μ-loop
 same-length c = c .before .loop .inv .1 .long

@@ -53,7 +53,14 @@ add-n c =
     let l = c .before .before .before in
     let s = l .before .before in
     let ws = s .args .words .now in
-    omega (arith, length-step (s .args .wide) ws (l .loop .a) (l .loop .left) (omega arith), length-few (s .args .wide) (s .args .ring) ws (s .pre .bounded), s .pre .few, l .loop .inv .1, c .generation-length .ensures)
+    omega (
+      arith,
+      length-step (s .args .wide) ws (l .loop .a) (l .loop .left) (omega arith),
+      length-few (s .args .wide) (s .args .ring) ws (s .pre .bounded),
+      s .pre .few,
+      l .loop .inv .1,
+      c .generation-length .ensures,
+    )
 
 sub-left : tie.Need-sub-left Inv-loop μ-loop
 sub-left c = search needs
@@ -65,8 +72,11 @@ loop-again : tie.Need-loop-again Inv-loop μ-loop
 loop-again c =
     let l = c .before .before .before in
     let s = l .before .before in
-    let ws = s .args .words .now in
-    (rest-on (s .args .wide) ws (l .loop .a) (l .loop .left) (omega arith) (l .loop .inv .0), omega (arith, length-step (s .args .wide) ws (l .loop .a) (l .loop .left) (omega arith), l .loop .inv .1, c .generation-length .ensures))
+    let ws = s .args .words .now in (
+      rest-on (s .args .wide) ws (l .loop .a) (l .loop .left) (omega arith) (l .loop .inv .0),
+      omega
+          (arith, length-step (s .args .wide) ws (l .loop .a) (l .loop .left) (omega arith), l .loop .inv .1, c .generation-length .ensures),
+    )
 
 returns : tie.Need-returns Inv-loop μ-loop
 returns c =

@@ -67,7 +67,8 @@ loop-again c =
     let n = length (c .before .before .before .before .before .before .before .before .before .before .args .slots .now) in
     let e : c .next-slot .result ≡ next n (l .j) = c .next-slot .ensures in
     let some = c .before .before .before .before .before .before .before .before .if1 .left in
-    let on = goes-on _ (c .before .before .before .before .before .before .before .before .before .before .args .i) _ _ some (l .left) (l .j) (l .inv .1) (c .before .before .before .before .if2 .left) (c .before .before .if3 .left) (c .before .if4 .left) in
+    let on = goes-on _ (c .before .before .before .before .before .before .before .before .before .before .args .i) _ _ some (l .left) (l .j) (l .inv .1)
+    (c .before .before .before .before .if2 .left) (c .before .before .if3 .left) (c .before .if4 .left) in
     (rw e (next< n (l .j) (l .inv .0)), rw e on)
 
 returns-5 : tie.Need-returns-5 Inv-loop μ-loop

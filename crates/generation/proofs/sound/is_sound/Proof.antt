@@ -79,7 +79,8 @@ returns-5 c =
     let zero = sym (not-false _ (c .before .before .before .before .before .before .before .if2 .left)) ∙ c .before .before .before .before .before .before .before .before .zeros-only .ensures in
     let some = c .before .before .before .before .before .if3 .left in
     let filled = sym (not-false _ (c .before .before .if4 .left)) ∙ c .before .before .before .filled-sound .ensures in
-    c .slots-sound .ensures ∙ sound-filled _ _ (c .before .before .before .before .before .before .before .before .before .before .before .before .before .args .part .now) (omega arith) zero some filled
+    c .slots-sound .ensures ∙ sound-filled _ _ (c .before .before .before .before .before .before .before .before .before .before .before .before .before .args .part
+    .now) (omega arith) zero some filled
 
 pub is-sound-spec : {M : Type 1} → statement M
 is-sound-spec =

@@ -20,7 +20,13 @@ fits-at-requires-4 c κs = search needs
 
 returns : tie.Need-returns
 unfolding settings-fit
-returns c = rw (c .before .before .fits-at4 .ensures, c .before .before .before .fits-at3 .ensures, c .before .before .before .before .fits-at2 .ensures, c .before .before .before .before .before .fits-at .ensures, c .before .before .before .before .before .before .shares-fit .ensures)
+returns c =
+    let shares-fit = c .before .before .before .before .before .before .shares-fit in
+    let fits-at = c .before .before .before .before .before .fits-at in
+    let fits-at2 = c .before .before .before .before .fits-at2 in
+    let fits-at3 = c .before .before .before .fits-at3 in
+    let fits-at4 = c .before .before .fits-at4 in
+    rw (fits-at4 .ensures, fits-at3 .ensures, fits-at2 .ensures, fits-at .ensures, shares-fit .ensures)
 
 pub settings-fit-spec : {M : Type 1} → statement M
 settings-fit-spec =

@@ -30,7 +30,12 @@ shared-slice-read-t15 : tie.Need-shared-slice-read-t15
 shared-slice-read-t15 c = search needs
 
 returns : tie.Need-returns
-returns c = rw (c .before .before .before .before .before .usable-below4 .ensures, c .before .before .before .before .before .before .usable-below3 .ensures, c .before .before .before .before .before .before .before .usable-below2 .ensures, c .before .before .before .before .before .before .before .before .usable-below .ensures)
+returns c =
+    let usable-below = c .before .before .before .before .before .before .before .before .usable-below in
+    let usable-below2 = c .before .before .before .before .before .before .before .usable-below2 in
+    let usable-below3 = c .before .before .before .before .before .before .usable-below3 in
+    let usable-below4 = c .before .before .before .before .before .usable-below4 in
+    rw (usable-below4 .ensures, usable-below3 .ensures, usable-below2 .ensures, usable-below .ensures)
 
 pub settings-of-spec : {M : Type 1} → statement M
 settings-of-spec =

@@ -17,7 +17,12 @@ ring-of-requires c κs = search needs
 
 returns : tie.Need-returns
 unfolding usable-fit
-returns c = rw (c .before .before .ring-of .ensures, c .before .before .before .is-power-of-two .ensures, c .before .before .before .before .window-fit2 .ensures, c .before .before .before .before .before .window-fit .ensures)
+returns c =
+    let window-fit = c .before .before .before .before .before .window-fit in
+    let window-fit2 = c .before .before .before .before .window-fit2 in
+    let is-power-of-two = c .before .before .before .is-power-of-two in
+    let ring-of = c .before .before .ring-of in
+    rw (ring-of .ensures, is-power-of-two .ensures, window-fit2 .ensures, window-fit .ensures)
 
 pub usable-fit-spec : {M : Type 1} → statement M
 usable-fit-spec =

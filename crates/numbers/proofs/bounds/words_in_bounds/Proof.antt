@@ -35,7 +35,13 @@ add-result-5 : tie.Need-add-result-5
 add-result-5 c = search needs
 
 returns : tie.Need-returns
-returns c = rw (c .before .before .before .before .words-at .ensures .0, c .before .before .before .words-at2 .ensures .0, c .before .before .words-at3 .ensures .0, c .before .words-at4 .ensures .0) (needed-is (c .before .before .before .before .before .args .s) (c .before .before .before .before .before .pre) _ (c .book-words .ensures .0))
+returns c =
+    let s = c .before .before .before .before .before .args in
+    let pre = c .before .before .before .before .before .pre in
+    let words-at = c .before .before .before .before .words-at in
+    let words-at2 = c .before .before .before .words-at2 in
+    let words-at3 = c .before .before .words-at3 in
+    rw (words-at .ensures .0, words-at2 .ensures .0, words-at3 .ensures .0, c .before .words-at4 .ensures .0) (needed-is (s .s) pre _ (c .book-words .ensures .0))
 
 pub words-in-bounds-spec : {M : Type 1} → statement M
 words-in-bounds-spec =

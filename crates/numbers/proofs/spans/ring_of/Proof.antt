@@ -20,7 +20,11 @@ capped-add-requires-2 c κs = search needs
 
 returns : tie.Need-returns
 unfolding ring-of
-returns c = rw (c .capped-add2 .ensures, c .before .ceil-div .ensures, c .before .before .capped-add .ensures, c .before .before .before .ahead .ensures, c .before .before .before .before .retained .ensures)
+returns c =
+    let retained = c .before .before .before .before .retained in
+    let ahead = c .before .before .before .ahead in
+    let capped-add = c .before .before .capped-add in
+    rw (c .capped-add2 .ensures, c .before .ceil-div .ensures, capped-add .ensures, ahead .ensures, retained .ensures)
 
 pub ring-of-spec : {M : Type 1} → statement M
 ring-of-spec =

@@ -19,7 +19,9 @@ add-result : tie.Need-add-result
 add-result c = let k = product-few (c .before .before .args .class) _ _ class-most (c .class-number .ensures) (c .before .class-width .ensures .1) in omega arith
 
 returns : tie.Need-returns
-returns c = (rw (c .class-number .ensures, c .before .class-width .ensures .0), rw (c .class-number .ensures, c .before .class-width .ensures .0) (class-within (c .before .before .args .s) (c .before .before .args .class)))
+returns c =
+    let s = c .before .before .args in
+    (rw (c .class-number .ensures, c .before .class-width .ensures .0), rw (c .class-number .ensures, c .before .class-width .ensures .0) (class-within (s .s) (s .class)))
 
 pub class-start-spec : {M : Type 1} → statement M
 class-start-spec =

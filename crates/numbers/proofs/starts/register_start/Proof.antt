@@ -26,13 +26,34 @@ loop-holds : tie.Need-loop-holds Inv-loop μ-loop
 loop-holds c = added-none (c .before .args .s) (c .before .args .register) _ (c .class-width .ensures .0) (c .class-width .ensures .1)
 
 usable-in-requires : tie.Need-usable-in-requires Inv-loop μ-loop
-usable-in-requires c κs = let m = registers≤4 (c .before .before .before .args .s) (c .before .before .before .pre .0) in let t = c .loop-test .taken in let p = c .before .before .before .pre .1 in omega arith
+usable-in-requires c κs =
+    let s = c .before .before .before .args in
+    let pre = c .before .before .before .pre in
+    let m = registers≤4 (s .s) (pre .0) in
+    let t = c .loop-test .taken in
+    let p = pre .1 in
+    omega arith
 
 register-width-requires : tie.Need-register-width-requires Inv-loop μ-loop
-register-width-requires c κs = let t = c .before .loop-test .taken in let p = c .before .before .before .before .pre .1 in rw (c .usable-in .ensures) (fit-usable (c .before .before .before .before .args .s) (c .before .before .loop .i) (c .before .before .before .before .pre .0) (omega arith))
+register-width-requires c κs =
+    let pre = c .before .before .before .before .pre in
+    let s = c .before .before .before .before .args in
+    let loop = c .before .before .loop in
+    let t = c .before .loop-test .taken in
+    let p = pre .1 in
+    rw (c .usable-in .ensures) (fit-usable (s .s) (loop .i) (pre .0) (omega arith))
 
 add-a-2 : tie.Need-add-a-2 Inv-loop μ-loop
-add-a-2 c = let m = registers≤4 (c .before .before .before .before .before .args .s) (c .before .before .before .before .before .pre .0) in let y = c .before .before .before .loop .inv .small in let w = c .before .before .before .loop .inv .within in let p = c .before .before .before .before .before .pre .1 in let k = c .register-width .ensures .1 in omega arith
+add-a-2 c =
+    let s = c .before .before .before .before .before .args in
+    let pre = c .before .before .before .before .before .pre in
+    let loop = c .before .before .before .loop in
+    let m = registers≤4 (s .s) (pre .0) in
+    let y = loop .inv .small in
+    let w = loop .inv .within in
+    let p = pre .1 in
+    let k = c .register-width .ensures .1 in
+    omega arith
 
 add-i : tie.Need-add-i Inv-loop μ-loop
 add-i c = let t = c .before .before .loop-test .taken in omega arith
@@ -41,10 +62,24 @@ loop-less : tie.Need-loop-less Inv-loop μ-loop
 loop-less c = let t = c .before .before .loop-test .taken in omega arith
 
 loop-again : tie.Need-loop-again Inv-loop μ-loop
-loop-again c = added-more (c .before .before .before .before .before .args .s) (c .before .before .before .before .before .args .register) (c .before .before .before .loop .a) (c .before .before .before .loop .i) _ (c .before .before .before .loop .inv) (c .before .before .loop-test .taken) (rw (c .before .usable-in .ensures) at (c .register-width .ensures .0)) (c .register-width .ensures .1)
+loop-again c =
+    let s = c .before .before .before .before .before .args in
+    let loop = c .before .before .before .loop in
+    let loop-test = c .before .before .loop-test in
+    added-more (s .s) (s .register) (loop .a) (loop .i) _ (loop .inv) (loop-test .taken) (rw (c .before .usable-in .ensures) at (c .register-width .ensures .0))
+    (c .register-width .ensures .1)
 
 returns : tie.Need-returns Inv-loop μ-loop
-returns c = let l = c .before .loop .inv in let w = l .within in let t = c .loop-test .left in let e : c .before .loop .i ≡ (c .before .before .before .args .register) = omega arith in let k = rw e at (l .sum) in let m = registers≤4 (c .before .before .before .args .s) (c .before .before .before .pre .0) in (k, rw k (register-within (c .before .before .before .args .s) (c .before .before .before .args .register) m (c .before .before .before .pre .1)))
+returns c =
+    let s = c .before .before .before .args in
+    let pre = c .before .before .before .pre in
+    let l = c .before .loop .inv in
+    let w = l .within in
+    let t = c .loop-test .left in
+    let e : c .before .loop .i ≡ (s .register) = omega arith in
+    let k = rw e at (l .sum) in
+    let m = registers≤4 (s .s) (pre .0) in
+    (k, rw k (register-within (s .s) (s .register) m (pre .1)))
 
 pub register-start-spec : {M : Type 1} → statement M
 register-start-spec =

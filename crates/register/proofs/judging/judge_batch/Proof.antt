@@ -20,7 +20,14 @@ same-length : tie.Need-same-length
 same-length c = search needs
 
 returns : tie.Need-returns
-returns c = let j = c .before .before .before .before .before in let s = j .before .before .before in (j .judge .ensures .0, batch-turns (s .args .u) (asked-by (s .args .ask)) _ _ _ _ _ _ (j .judge .ensures .1) (c .before .before .window-for .ensures) (c .before .front-past .ensures) (c .ahead-for .ensures))
+returns c =
+    let j = c .before .before .before .before .before in
+    let window-for = c .before .before .window-for in
+    let s = j .before .before .before in (
+      j .judge .ensures .0,
+      batch-turns (s .args .u) (asked-by (s .args .ask)) _ _ _ _ _ _ (j .judge .ensures .1) (window-for .ensures) (c .before .front-past .ensures)
+          (c .ahead-for .ensures),
+    )
 
 pub judge-batch-spec : {M : Type 1} → statement M
 judge-batch-spec =

@@ -23,13 +23,27 @@ in-window-requires : tie.Need-in-window-requires
 in-window-requires c κs = search needs
 
 returns : tie.Need-returns
-returns c = let w = c .before in let h = w .before .before .before in let s = h .before .before .before .before in duplicate-reads (s .args .u) (asked-by (s .args .ask)) _ _ _ (h .before .before .bucket-of .ensures) (h .before .as-read .ensures) _ (h .holds-any-class .ensures) (c .if1 .taken)
+returns c =
+    let w = c .before in
+    let h = w .before .before .before in
+    let s = h .before .before .before .before in
+    duplicate-reads (s .args .u) (asked-by (s .args .ask)) _ _ _ (h .before .before .bucket-of .ensures) (h .before .as-read .ensures) _ (h .holds-any-class .ensures) (c .if1 .taken)
 
 returns-2 : tie.Need-returns-2
-returns-2 c = let w = c .before .before in let h = w .before .before .before in let s = h .before .before .before .before in late-reads (s .args .u) (asked-by (s .args .ask)) _ _ _ (h .before .before .bucket-of .ensures) (h .before .as-read .ensures) _ (h .holds-any-class .ensures) _ _ (w .before .before .is-under .ensures (s .args .u)) _ (w .before .window-for .ensures) (w .in-window .ensures) (c .before .if1 .left) (c .if2 .taken)
+returns-2 c =
+    let w = c .before .before in
+    let h = w .before .before .before in
+    let s = h .before .before .before .before in
+    late-reads (s .args .u) (asked-by (s .args .ask)) _ _ _ (h .before .before .bucket-of .ensures) (h .before .as-read .ensures) _ (h .holds-any-class .ensures) _ _
+    (w .before .before .is-under .ensures (s .args .u)) _ (w .before .window-for .ensures) (w .in-window .ensures) (c .before .if1 .left) (c .if2 .taken)
 
 returns-3 : tie.Need-returns-3
-returns-3 c = let w = c .before .before in let h = w .before .before .before in let s = h .before .before .before .before in new-reads (s .args .u) (asked-by (s .args .ask)) _ _ _ (h .before .before .bucket-of .ensures) (h .before .as-read .ensures) _ (h .holds-any-class .ensures) _ _ (w .before .before .is-under .ensures (s .args .u)) _ (w .before .window-for .ensures) (w .in-window .ensures) (c .before .if1 .left) (c .if2 .left)
+returns-3 c =
+    let w = c .before .before in
+    let h = w .before .before .before in
+    let s = h .before .before .before .before in
+    new-reads (s .args .u) (asked-by (s .args .ask)) _ _ _ (h .before .before .bucket-of .ensures) (h .before .as-read .ensures) _ (h .holds-any-class .ensures) _ _
+    (w .before .before .is-under .ensures (s .args .u)) _ (w .before .window-for .ensures) (w .in-window .ensures) (c .before .if1 .left) (c .if2 .left)
 
 pub verdict-spec : {M : Type 1} → statement M
 verdict-spec =

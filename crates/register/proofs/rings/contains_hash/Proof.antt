@@ -19,7 +19,10 @@ holds-hash-requires-3 : tie.Need-holds-hash-requires-3
 holds-hash-requires-3 c κs = ((print-positive _ _ (c .before .before .before .as-read .ensures), c .before .before .before .before .before .pre), c .before .before .rings-of .ensures)
 
 returns : tie.Need-returns
-returns c = let a = c .before .before .before .before in hash-reads _ (a .before .before .args .fp) _ _ _ _ _ (a .as-read .ensures) (c .before .before .holds-hash .ensures) (c .before .holds-hash2 .ensures) (c .holds-hash3 .ensures)
+returns c =
+    let a = c .before .before .before .before in
+    let holds-hash = c .before .before .holds-hash in
+    hash-reads _ (a .before .before .args .fp) _ _ _ _ _ (a .as-read .ensures) (holds-hash .ensures) (c .before .holds-hash2 .ensures) (c .holds-hash3 .ensures)
 
 pub contains-hash-spec : {M : Type 1} → statement M
 contains-hash-spec =

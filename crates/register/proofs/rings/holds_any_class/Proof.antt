@@ -21,7 +21,10 @@ holds-in-requires-3 : tie.Need-holds-in-requires-3
 holds-in-requires-3 c κs = search needs
 
 returns : tie.Need-returns
-returns c = let s = c .before .before .before .before .before .before in any-reads _ (holds (s .args .bucket .0) (s .args .fp)) _ _ _ _ (c .before .before .holds-in .ensures) (c .before .holds-in2 .ensures) (c .holds-in3 .ensures)
+returns c =
+    let s = c .before .before .before .before .before .before in
+    let holds-in = c .before .before .holds-in in
+    any-reads _ (holds (s .args .bucket .0) (s .args .fp)) _ _ _ _ (holds-in .ensures) (c .before .holds-in2 .ensures) (c .holds-in3 .ensures)
 
 pub holds-any-class-spec : {M : Type 1} → statement M
 holds-any-class-spec =

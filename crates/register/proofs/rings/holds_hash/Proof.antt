@@ -3,8 +3,8 @@ use borrow.Author.Needs.{needs}
 use Rattle.register.proofs.rings.holds_hash.Statement.{statement}
 use Rattle.register.proofs.rings.holds_hash.Tie as tie
 
-place-in-requires : tie.Need-place-in-requires
-place-in-requires c κs = search needs
+extent-in-requires : tie.Need-extent-in-requires
+extent-in-requires c κs = search needs
 
 mul-contains-any : tie.Need-mul-contains-any
 mul-contains-any c = search needs
@@ -19,16 +19,16 @@ part-contains-any-end : tie.Need-part-contains-any-end
 part-contains-any-end c = search needs
 
 contains-any-requires : tie.Need-contains-any-requires
-contains-any-requires c κs = let s = c .before .before .before in (s .pre .0 .0, ring-asks _ _ _ (c .before .place-in .ensures) (s .args .part .now) (s .pre .0 .1))
+contains-any-requires c κs = let s = c .before .before .before in (s .pre .0 .0, ring-asks _ _ _ (c .before .extent-in .ensures) (s .args .part .now) (s .pre .0 .1))
 
 returns : tie.Need-returns
-returns c = ring-reads _ _ _ (c .before .before .place-in .ensures) (c .contains-any .ensures)
+returns c = ring-reads _ _ _ (c .before .before .extent-in .ensures) (c .contains-any .ensures)
 
 pub holds-hash-spec : {M : Type 1} → statement M
 holds-hash-spec =
     tie.close
     (tie.spec
-    place-in-requires
+    extent-in-requires
     mul-contains-any
     sub-contains-any
     part-contains-any-start

@@ -4,8 +4,8 @@ use Rattle.register.proofs.rings.room.Statement.{statement}
 use Rattle.register.proofs.rings.room.Tie as tie
 use Rattle.ring.proofs.room.Reads as room-reads
 
-ring-at-requires : tie.Need-ring-at-requires
-ring-at-requires c κs = search needs
+ring-extent-requires : tie.Need-ring-extent-requires
+ring-extent-requires c κs = search needs
 
 mul-room : tie.Need-mul-room
 mul-room c = search needs
@@ -20,16 +20,16 @@ part-room-end : tie.Need-part-room-end
 part-room-end c = search needs
 
 room-requires : tie.Need-room-requires
-room-requires c κs = let s = c .before .before .before in (s .pre .0, ring-asks _ _ _ (c .before .ring-at .ensures) (s .args .part .now) (s .pre .1))
+room-requires c κs = let s = c .before .before .before in (s .pre .0, ring-asks _ _ _ (c .before .ring-extent .ensures) (s .args .part .now) (s .pre .1))
 
 returns : tie.Need-returns
-returns c = room-reads _ _ _ (c .before .before .ring-at .ensures) _ _ (c .room .ensures)
+returns c = room-reads _ _ _ (c .before .before .ring-extent .ensures) _ _ (c .room .ensures)
 
 pub room-spec : {M : Type 1} → statement M
 room-spec =
     tie.close
     (tie.spec
-    ring-at-requires
+    ring-extent-requires
     mul-room
     sub-room
     part-room-start

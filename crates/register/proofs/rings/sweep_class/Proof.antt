@@ -4,8 +4,8 @@ use borrow.Author.Needs.{needs}
 use Rattle.register.proofs.rings.sweep_class.Statement.{statement}
 use Rattle.register.proofs.rings.sweep_class.Tie as tie
 
-place-in-requires : tie.Need-place-in-requires
-place-in-requires c κs = search needs
+extent-in-requires : tie.Need-extent-in-requires
+extent-in-requires c κs = search needs
 
 mul-sweep : tie.Need-mul-sweep
 mul-sweep c = search needs
@@ -20,7 +20,7 @@ part-sweep-end : tie.Need-part-sweep-end
 part-sweep-end c = search needs
 
 sweep-requires : tie.Need-sweep-requires
-sweep-requires c κs = let s = c .before .before .before in ring-asks _ _ _ (c .before .place-in .ensures) (s .args .part .now) (s .pre .0)
+sweep-requires c κs = let s = c .before .before .before in ring-asks _ _ _ (c .before .extent-in .ensures) (s .args .part .now) (s .pre .0)
 
 raise-by-requires : tie.Need-raise-by-requires
 raise-by-requires c κs = search needs
@@ -29,13 +29,19 @@ same-length : tie.Need-same-length
 same-length c = search needs
 
 returns : tie.Need-returns
-returns c = let d = c .before .before .before .before .before .before in let s = d .before .before .before .before in let t = class-turns (s .args .u) (s .args .class) (s .args .from .0) (s .args .through .0) _ _ _ _ (ring-turns _ _ _ (d .before .before .place-in .ensures) (d .sweep .ensures .1)) (c .before .before .raise-by .ensures (s .args .u)) in (class-words (s .args .u) (s .args .class) (s .args .from .0) (s .args .through .0) _ _ t (s .pre .0), t)
+returns c =
+    let d = c .before .before .before .before .before .before in
+    let raise-by = c .before .before .raise-by in
+    let s = d .before .before .before .before in
+    let t = class-turns (s .args .u) (s .args .class) (s .args .from .0) (s .args .through .0) _ _ _ _
+    (ring-turns _ _ _ (d .before .before .extent-in .ensures) (d .sweep .ensures .1)) (raise-by .ensures (s .args .u)) in
+    (class-words (s .args .u) (s .args .class) (s .args .from .0) (s .args .through .0) _ _ t (s .pre .0), t)
 
 pub sweep-class-spec : {M : Type 1} → statement M
 sweep-class-spec =
     tie.close
     (tie.spec
-    place-in-requires
+    extent-in-requires
     mul-sweep
     sub-sweep
     part-sweep-start

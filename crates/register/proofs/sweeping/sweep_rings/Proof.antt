@@ -19,7 +19,14 @@ same-length : tie.Need-same-length
 same-length c = search needs
 
 returns : tie.Need-returns
-returns c = let x = c .before .before in let y = x .before .before .before .before in let z = y .before .before .before .before in let w = z .before .before .before .before in let s = w .before .before .before in rings-turns (s .args .u) (s .args .from .0) (s .args .through .0) _ _ _ _ _ (w .sweep-class .ensures .1) (z .sweep-class2 .ensures .1) (y .sweep-class3 .ensures .1) (x .set-swept .ensures)
+returns c =
+    let x = c .before .before in
+    let y = x .before .before .before .before in
+    let z = y .before .before .before .before in
+    let w = z .before .before .before .before in
+    let s = w .before .before .before in
+    rings-turns (s .args .u) (s .args .from .0) (s .args .through .0) _ _ _ _ _ (w .sweep-class .ensures .1) (z .sweep-class2 .ensures .1) (y .sweep-class3 .ensures .1)
+    (x .set-swept .ensures)
 
 pub sweep-rings-spec : {M : Type 1} → statement M
 sweep-rings-spec =

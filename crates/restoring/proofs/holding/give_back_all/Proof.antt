@@ -22,13 +22,21 @@ loop-less : tie.Need-loop-less Inv-loop μ-loop
 loop-less c = search needs
 
 loop-again : tie.Need-loop-again Inv-loop μ-loop
-loop-again c = let s = c .before .before .before .before .before .before .before in let i = c .before .before .before .before .before .loop in returns-next (s .args .s) (s .args .r) (s .args .h) (s .args .run .now) (s .args .draws) _ _ (i .left) (i .inv) (c .before .before .before .before .loop-test .taken) (c .before .before .give-back .ensures .0) (c .before .before .give-back .ensures .1)
+loop-again c =
+    let s = c .before .before .before .before .before .before .before in
+    let i = c .before .before .before .before .before .loop in
+    let loop-test = c .before .before .before .before .loop-test in
+    let give-back = c .before .before .give-back in
+    returns-next (s .args .s) (s .args .r) (s .args .h) (s .args .run .now) (s .args .draws) _ _ (i .left) (i .inv) (loop-test .taken) (give-back .ensures .0) (give-back .ensures .1)
 
 same-length : tie.Need-same-length Inv-loop μ-loop
 same-length c = search needs
 
 returns : tie.Need-returns Inv-loop μ-loop
-returns c = let s = c .before .before .before in let i = c .before .loop in (i .inv .words, returns-end (s .args .s) (s .args .r) (s .args .h) (s .args .run .now) (s .args .draws) _ (i .left) (i .inv) (c .loop-test .left))
+returns c =
+    let s = c .before .before .before in
+    let i = c .before .loop in
+    (i .inv .words, returns-end (s .args .s) (s .args .r) (s .args .h) (s .args .run .now) (s .args .draws) _ (i .left) (i .inv) (c .loop-test .left))
 
 pub give-back-all-spec : {M : Type 1} → statement M
 give-back-all-spec =

@@ -12,7 +12,11 @@ same-length : tie.Need-same-length
 same-length c = search needs
 
 returns : tie.Need-returns
-returns c = let s = c .before .before .before .before .before .before .before in let a = c .before .before .before .hold-all .ensures in (a .0, generation-kept (s .args .s) (s .args .r) (s .args .h) (dumped-at (words-of (s .args .bytes .now)) (s .args .at) .prints) (s .args .run .now) _ _ (a .1) (c .if1 .taken))
+returns c =
+    let s = c .before .before .before .before .before .before .before in
+    let hold-all = c .before .before .before .hold-all in
+    let a = hold-all .ensures in
+    (a .0, generation-kept (s .args .s) (s .args .r) (s .args .h) (dumped-at (words-of (s .args .bytes .now)) (s .args .at) .prints) (s .args .run .now) _ _ (a .1) (c .if1 .taken))
 
 give-back-all-requires : tie.Need-give-back-all-requires
 give-back-all-requires c κs = search needs
@@ -24,7 +28,18 @@ same-length-2 : tie.Need-same-length-2
 same-length-2 c = search needs
 
 returns-2 : tie.Need-returns-2
-returns-2 c = let s = c .before .before .before .before .before .before .before .before .before .before .before .before .before .before .before in let a = c .before .before .before .before .before .before .before .before .before .before .before .hold-all .ensures in let e = c .before .before .fail .ensures in (e .0, generation-failed (s .args .s) (s .args .r) (s .args .h) (dumped-at (words-of (s .args .bytes .now)) (s .args .at) .prints) (s .args .run .now) _ _ _ _ (s .pre .0 .1) (a .1) (c .before .before .before .before .before .before .before .before .if1 .left) (c .before .before .before .before .before .before .give-back-all .ensures .1) (e .1))
+returns-2 c =
+    let s = c .before .before .before .before .before .before .before .before .before .before .before .before .before .before .before in
+    let hold-all = c .before .before .before .before .before .before .before .before .before .before .before .hold-all in
+    let if1 = c .before .before .before .before .before .before .before .before .if1 in
+    let give-back-all = c .before .before .before .before .before .before .give-back-all in
+    let fail = c .before .before .fail in
+    let a = hold-all .ensures in
+    let e = fail .ensures in (
+      e .0,
+      generation-failed (s .args .s) (s .args .r) (s .args .h) (dumped-at (words-of (s .args .bytes .now)) (s .args .at) .prints) (s .args .run .now) _ _ _ _
+          (s .pre .0 .1) (a .1) (if1 .left) (give-back-all .ensures .1) (e .1),
+    )
 
 pub restore-generation-spec : {M : Type 1} → statement M
 restore-generation-spec =

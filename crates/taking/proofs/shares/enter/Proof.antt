@@ -33,13 +33,28 @@ part-enter-end : tie.Need-part-enter-end
 part-enter-end c = search needs
 
 enter-requires : tie.Need-enter-requires
-enter-requires c κs = let a = c .before .before in let s = a .before .before .before in let k = a .before .class-of .ensures in let start = a .class-start .ensures .0 ∙ ap (λ (z : Class). class-start (s .args .s) z) k in let end = ap (λ (n : ℕ). a .class-start .result + n) (c .before .class-width .ensures .0) in enter-asks (s .args .s) (s .args .ticket) (s .args .run .now) (s .pre .0) (s .pre .1 .0) (s .args .spot) (s .pre .1 .1) _ _ start end
+enter-requires c κs =
+    let a = c .before .before in
+    let s = a .before .before .before in
+    let k = a .before .class-of .ensures in
+    let start = a .class-start .ensures .0 ∙ ap (λ (z : Class). class-start (s .args .s) z) k in
+    let end = ap (λ (n : ℕ). a .class-start .result + n) (c .before .class-width .ensures .0) in
+    enter-asks (s .args .s) (s .args .ticket) (s .args .run .now) (s .pre .0) (s .pre .1 .0) (s .args .spot) (s .pre .1 .1) _ _ start end
 
 same-length : tie.Need-same-length
 same-length c = search needs
 
 returns : tie.Need-returns
-returns c = let a = c .before .before .before .before .before in let s = a .before .before .before in let k = a .before .class-of .ensures in let start = a .class-start .ensures .0 ∙ ap (λ (z : Class). class-start (s .args .s) z) k in let end = ap (λ (n : ℕ). a .class-start .result + n) (c .before .before .before .before .class-width .ensures .0) in let t = enter-turns (s .args .s) (s .args .ticket) (s .args .run .now) (s .pre .0) (s .pre .1 .0) (s .args .spot) (s .pre .1 .1) _ _ start end _ (c .before .before .enter .ensures) in (enter-words (s .args .s) (s .args .ticket) (s .args .run .now) (s .pre .0) (s .pre .1 .0) (s .args .spot) (s .pre .1 .1) _ t, t)
+returns c =
+    let a = c .before .before .before .before .before in
+    let class-width = c .before .before .before .before .class-width in
+    let enter = c .before .before .enter in
+    let s = a .before .before .before in
+    let k = a .before .class-of .ensures in
+    let start = a .class-start .ensures .0 ∙ ap (λ (z : Class). class-start (s .args .s) z) k in
+    let end = ap (λ (n : ℕ). a .class-start .result + n) (class-width .ensures .0) in
+    let t = enter-turns (s .args .s) (s .args .ticket) (s .args .run .now) (s .pre .0) (s .pre .1 .0) (s .args .spot) (s .pre .1 .1) _ _ start end _ (enter .ensures) in
+    (enter-words (s .args .s) (s .args .ticket) (s .args .run .now) (s .pre .0) (s .pre .1 .0) (s .args .spot) (s .pre .1 .1) _ t, t)
 
 pub enter-spec : {M : Type 1} → statement M
 enter-spec = tie.close (tie.spec class-of-requires class-start-requires class-width-requires add-e mul-enter sub-enter part-enter-start part-enter-end enter-requires same-length returns)

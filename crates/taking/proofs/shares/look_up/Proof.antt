@@ -59,10 +59,31 @@ part-look-end : tie.Need-part-look-end
 part-look-end c = search needs
 
 look-requires : tie.Need-look-requires
-look-requires c κs = let a = c .before .before in let l = a .before .before .before .before .before in let s = l .before .before .before in let k = a .before .class-of .ensures in let start = a .class-start .ensures .0 ∙ ap (λ (z : Class). class-start (s .args .s) z) k in let end = ap (λ (n : ℕ). a .class-start .result + n) (c .before .class-width .ensures .0) in (class-asks (s .args .s) (class-of (s .args .ticket .who)) _ _ start end (s .args .run .now) (s .pre), limits-are-fit (s .args .s) (s .args .run .now) (s .pre) _ _ (l .kept-limits .ensures (s .args .s)) (a .before .before .before .is-closed .ensures (s .args .s)))
+look-requires c κs =
+    let a = c .before .before in
+    let l = a .before .before .before .before .before in
+    let s = l .before .before .before in
+    let k = a .before .class-of .ensures in
+    let start = a .class-start .ensures .0 ∙ ap (λ (z : Class). class-start (s .args .s) z) k in
+    let end = ap (λ (n : ℕ). a .class-start .result + n) (c .before .class-width .ensures .0) in (
+      class-asks (s .args .s) (class-of (s .args .ticket .who)) _ _ start end (s .args .run .now) (s .pre),
+      limits-are-fit (s .args .s) (s .args .run .now) (s .pre) _ _
+          (l .kept-limits .ensures (s .args .s)) (a .before .before .before .is-closed .ensures (s .args .s)),
+    )
 
 returns : tie.Need-returns
-returns c = let a = c .before .before .before in let l = a .before .before .before .before .before in let s = l .before .before .before in let k = a .before .class-of .ensures in let start = a .class-start .ensures .0 ∙ ap (λ (z : Class). class-start (s .args .s) z) k in let end = ap (λ (n : ℕ). a .class-start .result + n) (c .before .before .class-width .ensures .0) in look-reads (s .args .s) (s .args .ticket) (s .args .run .now) (s .pre) _ _ (l .kept-limits .ensures (s .args .s)) (a .before .before .before .is-closed .ensures (s .args .s)) _ _ start end _ (c .look .ensures)
+returns c =
+    let a = c .before .before .before in
+    let class-width = c .before .before .class-width in
+    let l = a .before .before .before .before .before in
+    let s = l .before .before .before in
+    let k = a .before .class-of .ensures in
+    let start = a .class-start .ensures .0 ∙ ap (λ (z : Class). class-start (s .args .s) z) k in
+    let end = ap (λ (n : ℕ). a .class-start .result + n) (class-width .ensures .0) in
+    look-reads (s .args .s) (s .args .ticket) (s .args .run .now) (s .pre) _ _ (l .kept-limits .ensures (s .args .s))
+    (a .before .before .before .is-closed .ensures (s .args .s)) _ _ start end _ (c .look .ensures)
 
 pub look-up-spec : {M : Type 1} → statement M
-look-up-spec = tie.close (tie.spec sub-kept-limits part-kept-limits-start part-kept-limits-end kept-limits-requires sub-is-closed part-is-closed-start part-is-closed-end is-closed-requires class-of-requires class-start-requires class-width-requires add-e mul-look sub-look part-look-start part-look-end look-requires returns)
+look-up-spec =
+    tie.close (tie.spec sub-kept-limits part-kept-limits-start part-kept-limits-end kept-limits-requires sub-is-closed part-is-closed-start part-is-closed-end
+    is-closed-requires class-of-requires class-start-requires class-width-requires add-e mul-look sub-look part-look-start part-look-end look-requires returns)

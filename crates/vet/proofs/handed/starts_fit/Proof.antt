@@ -23,7 +23,11 @@ start-fits-at-requires-4 c κs = search needs
 
 returns-2 : tie.Need-returns-2
 unfolding starts-fit
-returns-2 c = rw (eq-eqb _ _ (c .before .before .before .before .if1 .left), c .before .before .before .start-fits-at .ensures, c .before .before .start-fits-at2 .ensures, c .before .start-fits-at3 .ensures, c .start-fits-at4 .ensures)
+returns-2 c =
+    let if1 = c .before .before .before .before .if1 in
+    let start-fits-at = c .before .before .before .start-fits-at in
+    let start-fits-at2 = c .before .before .start-fits-at2 in
+    rw (eq-eqb _ _ (if1 .left), start-fits-at .ensures, start-fits-at2 .ensures, c .before .start-fits-at3 .ensures, c .start-fits-at4 .ensures)
 
 pub starts-fit-spec : {M : Type 1} → statement M
 starts-fit-spec =

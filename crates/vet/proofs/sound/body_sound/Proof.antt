@@ -30,7 +30,13 @@ book-sound-requires : tie.Need-book-sound-requires
 book-sound-requires c κs = search needs
 
 returns : tie.Need-returns
-returns c = let s = c .before .before .before .before .before in let t = s .args .s in let w = c .before .before .before .class-width .ensures .0 in let e : 3 * c .before .before .before .class-width .result ≡ book-form t .wide = omega arith in first-not (book-form t) (both (registers-form t) (free (unused-width t))) (s .args .body .now) _ e (omega arith) (sym (not-true _ (c .if1 .taken)) ∙ c .before .book-sound .ensures)
+returns c =
+    let s = c .before .before .before .before .before in
+    let class-width = c .before .before .before .class-width in
+    let t = s .args .s in
+    let w = class-width .ensures .0 in
+    let e : 3 * class-width .result ≡ book-form t .wide = omega arith in
+    first-not (book-form t) (both (registers-form t) (free (unused-width t))) (s .args .body .now) _ e (omega arith) (sym (not-true _ (c .if1 .taken)) ∙ c .before .book-sound .ensures)
 
 mul-registers-sound : tie.Need-mul-registers-sound
 mul-registers-sound c = search needs
@@ -48,7 +54,16 @@ registers-sound-requires : tie.Need-registers-sound-requires
 registers-sound-requires c κs = search needs
 
 returns-2 : tie.Need-returns-2
-returns-2 c = let s = c .before .before .before .before .before .before .before in let t = s .args .s in let w = c .before .before .before .before .before .class-width .ensures .0 in let e : 3 * c .before .before .before .before .before .class-width .result ≡ book-form t .wide = omega arith in first-on (book-form t) (both (registers-form t) (free (unused-width t))) (s .args .body .now) _ e (omega arith) (sym (not-false _ (c .before .before .if1 .left)) ∙ c .before .before .before .book-sound .ensures) _ (c .registers-sound .ensures)
+returns-2 c =
+    let s = c .before .before .before .before .before .before .before in
+    let class-width = c .before .before .before .before .before .class-width in
+    let book-sound = c .before .before .before .book-sound in
+    let if1 = c .before .before .if1 in
+    let t = s .args .s in
+    let w = class-width .ensures .0 in
+    let e : 3 * class-width .result ≡ book-form t .wide = omega arith in
+    first-on (book-form t) (both (registers-form t) (free (unused-width t))) (s .args .body .now) _ e (omega arith) (sym (not-false _ (if1 .left)) ∙ book-sound .ensures)
+    _ (c .registers-sound .ensures)
 
 pub body-sound-spec : {M : Type 1} → statement M
 body-sound-spec =

@@ -21,7 +21,10 @@ heading-sound-requires : tie.Need-heading-sound-requires
 heading-sound-requires c κs = search needs
 
 returns : tie.Need-returns
-returns c = let s = c .before .before .before .before in first-not (heading-form (s .args .u)) (each-form (λ c. ring-form (s .args .u))) (s .args .register .now) 24 refl (let l = s .pre .1 in omega arith) (sym (not-true _ (c .if1 .taken)) ∙ c .before .heading-sound .ensures)
+returns c =
+    let s = c .before .before .before .before in
+    first-not (heading-form (s .args .u)) (each-form (λ c. ring-form (s .args .u))) (s .args .register .now) 24 refl (let l = s .pre .1 in omega arith)
+    (sym (not-true _ (c .if1 .taken)) ∙ c .before .heading-sound .ensures)
 
 sub-rings-sound : tie.Need-sub-rings-sound
 sub-rings-sound c = search needs
@@ -36,7 +39,12 @@ rings-sound-requires : tie.Need-rings-sound-requires
 rings-sound-requires c κs = search needs
 
 returns-2 : tie.Need-returns-2
-returns-2 c = let s = c .before .before .before .before .before .before in first-on (heading-form (s .args .u)) (each-form (λ c. ring-form (s .args .u))) (s .args .register .now) 24 refl (let l = s .pre .1 in omega arith) (sym (not-false _ (c .before .before .if1 .left)) ∙ c .before .before .before .heading-sound .ensures) _ (c .rings-sound .ensures)
+returns-2 c =
+    let s = c .before .before .before .before .before .before in
+    let heading-sound = c .before .before .before .heading-sound in
+    let if1 = c .before .before .if1 in
+    first-on (heading-form (s .args .u)) (each-form (λ c. ring-form (s .args .u))) (s .args .register .now) 24 refl (let l = s .pre .1 in omega arith)
+    (sym (not-false _ (if1 .left)) ∙ heading-sound .ensures) _ (c .rings-sound .ensures)
 
 pub register-sound-spec : {M : Type 1} → statement M
 register-sound-spec =

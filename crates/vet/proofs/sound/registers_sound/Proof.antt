@@ -25,10 +25,19 @@ usable-in-requires : tie.Need-usable-in-requires Inv-loop μ-loop
 usable-in-requires c κs = let m = registers≤4 (c .before .before .before .args .s) (c .before .before .before .pre .0) in omega arith
 
 register-width-requires : tie.Need-register-width-requires Inv-loop μ-loop
-register-width-requires c κs = rw (c .usable-in .ensures) (fit-usable (c .before .before .before .before .args .s) (c .before .before .loop .i) (c .before .before .before .before .pre .0) (omega arith))
+register-width-requires c κs =
+    let s = c .before .before .before .before .args in
+    let pre = c .before .before .before .before .pre in
+    let loop = c .before .before .loop in
+    rw (c .usable-in .ensures) (fit-usable (s .s) (loop .i) (pre .0) (omega arith))
 
 add-e : tie.Need-add-e Inv-loop μ-loop
-add-e c = let k = turn-inside (c .before .before .before .before .before .args .s) (c .before .before .before .before .before .args .words .now) (c .before .before .before .before .before .pre .1) _ _ _ (c .before .before .before .loop .inv) (omega arith) _ (c .register-width .ensures .0 ∙ rw (c .before .usable-in .ensures)) in omega arith
+add-e c =
+    let s = c .before .before .before .before .before .args in
+    let pre = c .before .before .before .before .before .pre in
+    let loop = c .before .before .before .loop in
+    let k = turn-inside (s .s) (s .words .now) (pre .1) _ _ _ (loop .inv) (omega arith) _ (c .register-width .ensures .0 ∙ rw (c .before .usable-in .ensures)) in
+    omega arith
 
 mul-register-sound : tie.Need-mul-register-sound Inv-loop μ-loop
 mul-register-sound c = search needs
@@ -40,10 +49,23 @@ part-register-sound-start : tie.Need-part-register-sound-start Inv-loop μ-loop
 part-register-sound-start c = search needs
 
 part-register-sound-end : tie.Need-part-register-sound-end Inv-loop μ-loop
-part-register-sound-end c = turn-inside (c .before .before .before .before .before .args .s) (c .before .before .before .before .before .args .words .now) (c .before .before .before .before .before .pre .1) _ _ _ (c .before .before .before .loop .inv) (omega arith) _ (c .register-width .ensures .0 ∙ rw (c .before .usable-in .ensures))
+part-register-sound-end c =
+    let s = c .before .before .before .before .before .args in
+    let pre = c .before .before .before .before .before .pre in
+    let loop = c .before .before .before .loop in
+    turn-inside (s .s) (s .words .now) (pre .1) _ _ _ (loop .inv) (omega arith) _ (c .register-width .ensures .0 ∙ rw (c .before .usable-in .ensures))
 
 register-sound-requires : tie.Need-register-sound-requires Inv-loop μ-loop
-register-sound-requires c κs = rw (c .before .before .usable-in .ensures) (fit-usable (c .before .before .before .before .before .before .args .s) (c .before .before .before .before .loop .i) (c .before .before .before .before .before .before .pre .0) (omega arith), turn-long (c .before .before .before .before .before .before .args .s) (c .before .before .before .before .before .before .args .words .now) (c .before .before .before .before .before .before .pre .1) _ _ _ (c .before .before .before .before .loop .inv) (omega arith) _ (c .before .register-width .ensures .0 ∙ rw (c .before .before .usable-in .ensures)))
+register-sound-requires c κs =
+    let s = c .before .before .before .before .before .before .args in
+    let pre = c .before .before .before .before .before .before .pre in
+    let loop = c .before .before .before .before .loop in
+    let usable-in = c .before .before .usable-in in
+    rw (usable-in .ensures) (
+      fit-usable (s .s) (loop .i) (pre .0) (omega arith),
+      turn-long (s .s) (s .words .now) (pre .1) _ _ _ (loop .inv) (omega arith) _
+          (c .before .register-width .ensures .0 ∙ rw (usable-in .ensures)),
+    )
 
 add-i : tie.Need-add-i Inv-loop μ-loop
 add-i c = search needs
@@ -52,7 +74,14 @@ loop-less : tie.Need-loop-less Inv-loop μ-loop
 loop-less c = search needs
 
 loop-again : tie.Need-loop-again Inv-loop μ-loop
-loop-again c = turn-on (c .before .before .before .before .before .before .before .args .s) (c .before .before .before .before .before .before .before .args .words .now) (c .before .before .before .before .before .before .before .pre .1) _ _ _ (c .before .before .before .before .before .loop .inv) (omega arith) _ (c .before .before .register-width .ensures .0 ∙ rw (c .before .before .before .usable-in .ensures)) _ (rw (c .before .before .before .usable-in .ensures) at (c .register-sound .ensures))
+loop-again c =
+    let s = c .before .before .before .before .before .before .before .args in
+    let pre = c .before .before .before .before .before .before .before .pre in
+    let loop = c .before .before .before .before .before .loop in
+    let usable-in = c .before .before .before .usable-in in
+    let register-width = c .before .before .register-width in
+    turn-on (s .s) (s .words .now) (pre .1) _ _ _ (loop .inv) (omega arith) _ (register-width .ensures .0 ∙ rw (usable-in .ensures)) _
+    (rw (usable-in .ensures) at (c .register-sound .ensures))
 
 returns : tie.Need-returns Inv-loop μ-loop
 returns c = let s = c .before .before .before .args .s in row-then (form-at s) (s .registers) (unused-width s) _ _ (pass-end _ _ _ _ _ _ (c .before .loop .inv) (c .loop-test .left))

@@ -27,7 +27,11 @@ part-is-sound-end : tie.Need-part-is-sound-end
 part-is-sound-end c = search needs
 
 is-sound-requires : tie.Need-is-sound-requires
-is-sound-requires c κs = let s = c .before .before .before .before in ring-sized (s .args .u) (s .pre .0) _ (c .before .before .ring-of .ensures) _ (first-long (λ c. ring-form (s .args .u)) (ring-width (s .args .u)) (λ c. refl) (s .args .rings .now) (s .pre .1) _ _ (c .before .ring-width .ensures .0) refl)
+is-sound-requires c κs =
+    let s = c .before .before .before .before in
+    let ring-of = c .before .before .ring-of in
+    ring-sized (s .args .u) (s .pre .0) _ (ring-of .ensures) _ (first-long (λ c. ring-form (s .args .u)) (ring-width (s .args .u)) (λ c. refl) (s .args .rings .now)
+    (s .pre .1) _ _ (c .before .ring-width .ensures .0) refl)
 
 mul-is-sound : tie.Need-mul-is-sound
 mul-is-sound c = search needs
@@ -42,7 +46,12 @@ part-is-sound-end-2 : tie.Need-part-is-sound-end-2
 part-is-sound-end-2 c = search needs
 
 is-sound-requires-2 : tie.Need-is-sound-requires-2
-is-sound-requires-2 c κs = let s = c .before .before .before .before .before .before in ring-sized (s .args .u) (s .pre .0) _ (c .before .before .before .before .ring-of .ensures) _ (second-long (λ c. ring-form (s .args .u)) (ring-width (s .args .u)) (λ c. refl) (s .args .rings .now) (s .pre .1) _ _ (c .before .before .before .ring-width .ensures .0) refl)
+is-sound-requires-2 c κs =
+    let s = c .before .before .before .before .before .before in
+    let ring-of = c .before .before .before .before .ring-of in
+    let ring-width-2 = c .before .before .before .ring-width in
+    ring-sized (s .args .u) (s .pre .0) _ (ring-of .ensures) _ (second-long (λ c. ring-form (s .args .u)) (ring-width (s .args .u)) (λ c. refl) (s .args .rings .now)
+    (s .pre .1) _ _ (ring-width-2 .ensures .0) refl)
 
 mul-is-sound-2 : tie.Need-mul-is-sound-2
 mul-is-sound-2 c = search needs
@@ -57,10 +66,23 @@ part-is-sound-end-3 : tie.Need-part-is-sound-end-3
 part-is-sound-end-3 c = search needs
 
 is-sound-requires-3 : tie.Need-is-sound-requires-3
-is-sound-requires-3 c κs = let s = c .before .before .before .before .before .before .before .before in ring-sized (s .args .u) (s .pre .0) _ (c .before .before .before .before .before .before .ring-of .ensures) _ (third-long (λ c. ring-form (s .args .u)) (ring-width (s .args .u)) (λ c. refl) (s .args .rings .now) (s .pre .1) _ _ (c .before .before .before .before .before .ring-width .ensures .0) refl)
+is-sound-requires-3 c κs =
+    let s = c .before .before .before .before .before .before .before .before in
+    let ring-of = c .before .before .before .before .before .before .ring-of in
+    let ring-width-2 = c .before .before .before .before .before .ring-width in
+    ring-sized (s .args .u) (s .pre .0) _ (ring-of .ensures) _
+    (third-long (λ c. ring-form (s .args .u)) (ring-width (s .args .u)) (λ c. refl) (s .args .rings .now) (s .pre .1) _ _ (ring-width-2 .ensures .0) refl)
 
 returns : tie.Need-returns
-returns c = let s = c .before .before .before .before .before .before .before .before .before in let e = c .before .before .before .before .before .before .before .ring-of .ensures in each-test (λ c. ring-form (s .args .u)) (ring-width (s .args .u)) (λ c. refl) (s .args .rings .now) (s .pre .1) _ _ (c .before .before .before .before .before .before .ring-width .ensures .0) refl _ _ _ (rw e at (c .before .before .before .before .is-sound .ensures)) (rw e at (c .before .before .is-sound2 .ensures)) (rw e at (c .is-sound3 .ensures))
+returns c =
+    let s = c .before .before .before .before .before .before .before .before .before in
+    let ring-of = c .before .before .before .before .before .before .before .ring-of in
+    let ring-width-2 = c .before .before .before .before .before .before .ring-width in
+    let is-sound = c .before .before .before .before .is-sound in
+    let is-sound2 = c .before .before .is-sound2 in
+    let e = ring-of .ensures in
+    each-test (λ c. ring-form (s .args .u)) (ring-width (s .args .u)) (λ c. refl) (s .args .rings .now) (s .pre .1) _ _ (ring-width-2 .ensures .0) refl _ _ _
+    (rw e at (is-sound .ensures)) (rw e at (is-sound2 .ensures)) (rw e at (c .is-sound3 .ensures))
 
 pub rings-sound-spec : {M : Type 1} → statement M
 rings-sound-spec =

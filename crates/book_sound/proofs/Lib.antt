@@ -1,0 +1,6 @@
+pub mod Whose
+pub mod PlaceStarts
+pub mod Twice
+pub mod Placed
+pub mod Sums
+pub mod Classes
