@@ -6,7 +6,8 @@
 Three places say what an entry point takes and tells: include/strikes.h to hosts in C, the table in hosts/rust/src/entries.rs to hosts
 in Rust, and the code that is proved, crates/strikes_c/src. All must have the same entry points, with the same arguments in the same
 order: words or bytes that are read or that may be altered, numbers and out numbers. The symbols of ARCHIVE must be theirs too. And
-every entry point must be brought up where it could be forgotten: by the wrapper, by lists of calls, and where stacks are measured.
+every entry point must be brought up where it could be forgotten: by the wrapper, and by lists of calls, where the parts of a reading
+call must be its arguments. Where stacks are measured there must be a value for every argument.
 
 First the test is tried on itself: each of the faults below, put into one of the texts, must be found. Status 0 only if nothing differs.
 """
@@ -24,6 +25,7 @@ TABLE = "hosts/rust/src/entries.rs"
 CODE = "crates/strikes_c/src"
 WRAPPER = "hosts/rust/src/gateway.rs"
 MACHINE = "hosts/machine/src/lib.rs"
+LOOKS = "tests/calls/src/look.rs"
 STACK = "tests/stack/stack.c"
 
 # Arguments whose name is not the table's, with the table's; of one entry point alone where it is named.
@@ -32,12 +34,8 @@ OTHER_NAMES = {
     CODE: {"fp": "fingerprint", "begin.number": "floor"},
 }
 
-# How a place brings an entry point up, and those that it does not need.
-USES = {
-    WRAPPER: (r"\braw::(\w+)", {"words_needed"}),  # which is in settings.rs
-    MACHINE: (r"\braw::(\w+)", set()),
-    STACK: (r"\bENTRY\((\w+),", set()),
-}
+# How the wrapper and the machine that runs lists of calls bring an entry point up.
+USE = r"\braw::(\w+)"
 
 # What an argument is, by its type in Rust and in Rattle.
 KINDS = {
@@ -70,7 +68,11 @@ FAULTS = [
     (CODE, r"bytes: &\[u8\]", "bytes: &[u64]"),
     (WRAPPER, r"raw::sweep", "raw::swept"),
     (MACHINE, r"raw::take_batch", "raw::take"),
-    (STACK, r"ENTRY\(floor,.*", "\\\\"),
+    (LOOKS, r"Swept swept\(.*", ""),
+    (LOOKS, r"\(register, fingerprint\)", "(fingerprint, register)"),
+    (LOOKS, r"\(who: Who\)", "(who)"),
+    (STACK, r"\bclass_number\b", "class"),
+    (STACK, r"\bstarts_length\b", "starts"),
 ]
 
 
@@ -140,6 +142,18 @@ def of_table(text):
     return {name: of_rust(arguments, f"{TABLE}, {name}") + out_numbers(outs) for name, arguments, outs in found}
 
 
+def of_looks(text):
+    """The numbers that reading calls hand to their entry points, by name; a deliverer is two."""
+    lines = re.findall(r"^ +[A-Z]\w* (\w+)\((.*)\) -> \w+;$", text, flags=re.M)
+    return {name: parts(said.replace("who: Who", "kind, number")) for name, said in lines}
+
+
+def members(text):
+    """The values of tests/stack/stack.c."""
+    (struct,) = match(r".* static struct \{([^}]*)\} next = .*", text, STACK)
+    return set(re.findall(r"\w+", struct))
+
+
 def of_code(text):
     text = re.sub(r"//.*", "", text)
     found = re.findall(r'#\[no_mangle\]\s+pub extern "C" fn strikes_(\w+)\(([^()]*)\)\s+->\s+u64\b', text)
@@ -147,6 +161,17 @@ def of_code(text):
         if text.count(word) != len(found):
             raise Unread(f"{CODE}: `{word}` stands before something else than an entry point that returns u64")
     return {name: of_rust(arguments, f"{CODE}, {name}") for name, arguments in found}
+
+
+def named(arguments, kind):
+    return [name for name, of in arguments if of == KINDS[kind]]
+
+
+def handed(arguments):
+    """The names of what is handed in C: numbers, and runs with their lengths."""
+    numbers, outs = named(arguments, "u64"), named(arguments, "&mut u64")
+    each = [[name] if name in numbers else [name, f"{name}_length"] for name, _ in arguments if name not in outs]
+    return sum(each, [])
 
 
 def in_words(place, entry, arguments):
@@ -171,15 +196,29 @@ def apart(place, entries, table):
     return found
 
 
+def unused(texts, table):
+    """The entry points that are forgotten, and reading calls whose parts are not the numbers that the entry point takes."""
+    wrapper, machine, looks = set(re.findall(USE, texts[WRAPPER])), set(re.findall(USE, texts[MACHINE])), of_looks(texts[LOOKS])
+    found = missing(WRAPPER, wrapper, set(table) - {"words_needed"}, TABLE)  # which is in settings.rs
+    found += missing(f"{MACHINE} or {LOOKS}", machine | set(looks), set(table), TABLE)
+    for name in sorted(set(looks) & set(table)):
+        here, there = looks[name], named(table[name], "u64")
+        if here != there:
+            found.append(f"{name}: {LOOKS} has {', '.join(here)}; {TABLE} has {', '.join(there)}")
+    return found
+
+
 def differences(texts, exported=None):
     """All that differs among the texts, and between them and the symbols that are exported."""
     try:
         table = of_table(texts[TABLE])
-        found = apart(HEADER, of_header(texts[HEADER]), table) + apart(CODE, of_code(texts[CODE]), table)
+        header = of_header(texts[HEADER])
+        found = apart(HEADER, header, table) + apart(CODE, of_code(texts[CODE]), table)
+        arguments = {name for entry in header.values() for name in handed(entry)}
+        found += missing(STACK, members(texts[STACK]), arguments, HEADER)
     except Unread as why:
         return [str(why)]
-    for place, (use, needless) in USES.items():
-        found += missing(place, set(re.findall(use, texts[place])), set(table) - needless, TABLE)
+    found += unused(texts, table)
     if exported is not None:
         found += missing("the archive", exported, set(table), TABLE) + missing(TABLE, set(table), exported, "the archive")
     return found
@@ -214,7 +253,7 @@ def exports(archive):
 
 
 def main(arguments):
-    texts = {place: read(place) for place in [HEADER, TABLE, CODE, *USES]}
+    texts = {place: read(place) for place in [HEADER, TABLE, CODE, WRAPPER, MACHINE, LOOKS, STACK]}
     exported = exports(arguments[0]) if arguments else None
     found = differences(texts, exported) or unnoticed(texts)
     for line in found:

@@ -5,7 +5,7 @@ use std::fmt::Write;
 use std::hint::black_box;
 
 use calls::call::Ticket;
-use calls::{Form, Who};
+use calls::{Form, Look, Who};
 use strikes::raw;
 
 use crate::book::Book;
@@ -260,7 +260,10 @@ fn pairs(size: &Size, fill: Fill, dump: Option<&[u8]>, runs: usize) -> Vec<Compa
                 .expect("sound words");
         },
         |book, number, _| {
-            black_box(book.contains_hash(0, number));
+            black_box(book.look(&Look::ContainsHash {
+                register: 0,
+                fingerprint: number,
+            }));
         },
     ));
     all.push(repeated(
@@ -292,7 +295,7 @@ fn pairs(size: &Size, fill: Fill, dump: Option<&[u8]>, runs: usize) -> Vec<Compa
             black_box(raw::class(&ours.settings, &ours.words, 0)).expect("sound words");
         },
         |book, _, _| {
-            black_box(book.class(0));
+            black_box(book.look(&Look::Class { class: 0 }));
         },
     ));
     let mut output = vec![0; 8 * size.settings().words() as usize];

@@ -6,9 +6,13 @@
  *
  * Calls come at random, with a fixed seed, under small, middling and the largest settings and on slots that are sorted, so that each
  * refusal and each verdict comes, Whole and Partly too; where one does not come, the program ends with 1.
+ *
+ * entry_points.h is made by tests/stack/entry_points.py: ENTRY_POINTS, each entry point with what it is handed, and OUT_NUMBERS, the
+ * most that one of them tells.
  */
 #define _XOPEN_SOURCE 700
 #include "strikes.h"
+#include "entry_points.h"
 #include <stdio.h>
 #include <stdlib.h>
 #include <string.h>
@@ -33,40 +37,17 @@ static size_t depth(void (*run)(void)) {
     return STACK - at;
 }
 
-/* What the next call is handed. */
-static uint64_t settings[STRIKES_SETTINGS], limits[STRIKES_LIMITS], starts[STRIKES_STARTS];
-static size_t settings_length, words_length, bytes_length, output_length;
-static uint64_t *words;
-static uint8_t *bytes, *output;
-static uint64_t reg, fp, stamp, reading, flag, kind, number, class_number;
-static uint64_t a, b, c, d, status;
+/* What the next call is handed, by the names of the arguments in include/strikes.h; and what it tells. tests/entries.py finds a name
+ * that is left out. */
+static struct {
+    uint64_t settings[STRIKES_SETTINGS], limits[STRIKES_LIMITS], starts[STRIKES_STARTS], *words;
+    uint8_t *bytes, *out;
+    size_t settings_length, limits_length, starts_length, words_length, bytes_length, out_length;
+    uint64_t register_number, fingerprint, stamp, reading, flag, kind, number, class_number, floor;
+} next = {.limits_length = STRIKES_LIMITS, .starts_length = STRIKES_STARTS};
+static uint64_t told[OUT_NUMBERS], status;
 
 static void nothing(void) {}
-
-/* Each entry point, and what it is handed. tests/entries.py finds one that is left out. */
-#define LENT settings, settings_length, words, words_length
-#define TICKET reg, fp, stamp, reading, flag, kind, number
-#define ENTRY_POINTS(ENTRY) \
-    ENTRY(words_needed, settings, settings_length, &a) \
-    ENTRY(open, settings, settings_length, limits, STRIKES_LIMITS, starts, STRIKES_STARTS, words, words_length) \
-    ENTRY(judge, LENT, TICKET, &a) \
-    ENTRY(judge_batch, LENT, TICKET, &a) \
-    ENTRY(take, LENT, TICKET, &a) \
-    ENTRY(take_batch, LENT, TICKET, &a) \
-    ENTRY(contains_hash, LENT, reg, fp, &a) \
-    ENTRY(begin, LENT, reg, number, &a) \
-    ENTRY(sweep, LENT, reg, reading) \
-    ENTRY(expire, LENT, reading) \
-    ENTRY(set_limits, LENT, limits, STRIKES_LIMITS) \
-    ENTRY(close, LENT) \
-    ENTRY(held, LENT, kind, number, &a) \
-    ENTRY(class, LENT, class_number, &a, &b, &c, &d) \
-    ENTRY(dump, LENT, reg, output, output_length, &a) \
-    ENTRY(restore, LENT, reg, bytes, bytes_length, &a, &b) \
-    ENTRY(resume, LENT, reg, bytes, bytes_length, flag, number, &a, &b) \
-    ENTRY(floor, LENT, reg, &a, &b) \
-    ENTRY(pending, LENT, reg, &a) \
-    ENTRY(swept, LENT, reg, &a, &b)
 
 #define RUN(name, ...) \
     static void run_##name(void) { status = strikes_##name(__VA_ARGS__); }
@@ -98,9 +79,9 @@ static void measure(int which) {
     }
     e->through++;
     if (which >= is_judge && which <= is_take_batch)
-        verdicts[a]++;
+        verdicts[told[0]]++;
     if (which == is_restore || which == is_resume)
-        restored[a]++;
+        restored[told[0]]++;
 }
 
 static uint64_t seed = 1;
@@ -111,13 +92,13 @@ static uint64_t below(uint64_t n) {
 
 static void limits_at(uint64_t most) {
     for (int i = 0; i < STRIKES_LIMITS; i++)
-        limits[i] = most;
+        next.limits[i] = most;
 }
 
 /* The first generation of the first register holds three quarters of its slots, by fingerprints for which probing starts at one slot:
  * too far on to be followed, so that they are sorted. */
 static void crowd(uint64_t places, uint64_t pairs, uint64_t slots) {
-    uint64_t *generation = words + 20 + 3 * (4 + places * (2 * pairs + 4)) + 24;
+    uint64_t *generation = next.words + 20 + 3 * (4 + places * (2 * pairs + 4)) + 24;
     memset(generation, 0, 8 * (4 + slots));
     generation[0] = slots;
     generation[1] = 3 * slots / 4;
@@ -128,51 +109,51 @@ static void crowd(uint64_t places, uint64_t pairs, uint64_t slots) {
 /* Opens words with these settings, and makes calls at random; of 256 slots those of one generation are crowded at every call. */
 static void calls_under(uint64_t registers, uint64_t places, uint64_t pairs, uint64_t behind, uint64_t ahead, uint64_t bucket,
                         uint64_t slots, int turns) {
-    memset(settings, 0, sizeof settings);
-    settings[STRIKES_SET_REGISTERS] = registers;
-    settings[STRIKES_SET_PLACES] = places;
-    settings[STRIKES_SET_PAIRS] = pairs;
-    settings[STRIKES_SET_FEEDER_UNITS] = 1;
-    settings[STRIKES_SET_PEER_UNITS] = 2;
+    memset(next.settings, 0, sizeof next.settings);
+    next.settings[STRIKES_SET_REGISTERS] = registers;
+    next.settings[STRIKES_SET_PLACES] = places;
+    next.settings[STRIKES_SET_PAIRS] = pairs;
+    next.settings[STRIKES_SET_FEEDER_UNITS] = 1;
+    next.settings[STRIKES_SET_PEER_UNITS] = 2;
     for (uint64_t r = 0; r < registers; r++) {
-        settings[STRIKES_SET_ORIGIN_BEHIND(r)] = behind / 2;
-        settings[STRIKES_SET_ORIGIN_AHEAD(r)] = ahead;
-        settings[STRIKES_SET_COPY_BEHIND(r)] = behind;
-        settings[STRIKES_SET_COPY_AHEAD(r)] = ahead;
-        settings[STRIKES_SET_BUCKET(r)] = bucket;
-        settings[STRIKES_SET_SLOTS(r)] = slots;
-        starts[STRIKES_START_CODE(r)] = r % 3;
-        starts[STRIKES_START_FLOOR(r)] = 5;
+        next.settings[STRIKES_SET_ORIGIN_BEHIND(r)] = behind / 2;
+        next.settings[STRIKES_SET_ORIGIN_AHEAD(r)] = ahead;
+        next.settings[STRIKES_SET_COPY_BEHIND(r)] = behind;
+        next.settings[STRIKES_SET_COPY_AHEAD(r)] = ahead;
+        next.settings[STRIKES_SET_BUCKET(r)] = bucket;
+        next.settings[STRIKES_SET_SLOTS(r)] = slots;
+        next.starts[STRIKES_START_CODE(r)] = r % 3;
+        next.starts[STRIKES_START_FLOOR(r)] = 5;
     }
-    settings_length = STRIKES_SETTINGS;
+    next.settings_length = STRIKES_SETTINGS;
     measure(is_words_needed);
-    size_t needed = a;
-    words = malloc(8 * needed);
-    output = malloc(8 * needed);
-    bytes = malloc(8 * needed);
-    if (!words || !output || !bytes)
+    size_t needed = told[0];
+    next.words = malloc(8 * needed);
+    next.out = malloc(8 * needed);
+    next.bytes = malloc(8 * needed);
+    if (!next.words || !next.out || !next.bytes)
         exit(2);
-    words_length = needed;
-    output_length = bytes_length = 8 * needed;
-    memset(bytes, 0, bytes_length);
+    next.words_length = needed;
+    next.out_length = next.bytes_length = 8 * needed;
+    memset(next.bytes, 0, next.bytes_length);
     limits_at(200);
     measure(is_open);
-    reading = behind;
+    next.reading = behind;
     for (int turn = 0; turn < turns; turn++) {
         if (below(8) == 0)
-            reading += below(4 * bucket);
+            next.reading += below(4 * bucket);
         if (below(200) == 0)
-            reading -= below(reading / 2 + 1);
-        reg = below(40) ? below(registers) : registers;
-        fp = below(4 * slots);
-        stamp = reading - below(behind + 1) + below(ahead + bucket);
-        flag = below(20) ? 1 : below(3);
-        kind = below(40) ? below(4) : 4;
-        number = below(3);
-        class_number = below(4);
-        settings_length = below(60) ? STRIKES_SETTINGS : 28;
-        words_length = below(60) ? needed : needed - 1;
-        output_length = below(10) ? 8 * needed : below(64);
+            next.reading -= below(next.reading / 2 + 1);
+        next.register_number = below(40) ? below(registers) : registers;
+        next.fingerprint = below(4 * slots);
+        next.stamp = next.reading - below(behind + 1) + below(ahead + bucket);
+        next.flag = below(20) ? 1 : below(3);
+        next.kind = below(40) ? below(4) : 4;
+        next.number = next.floor = below(3);
+        next.class_number = below(4);
+        next.settings_length = below(60) ? STRIKES_SETTINGS : 28;
+        next.words_length = below(60) ? needed : needed - 1;
+        next.out_length = below(10) ? 8 * needed : below(64);
         int which = below(3) ? is_take + (int)below(2) : (int)below(ENTRIES);
         if (which == is_open && below(10))
             which = is_restore;
@@ -183,20 +164,20 @@ static void calls_under(uint64_t registers, uint64_t places, uint64_t pairs, uin
         if (slots == 256)
             crowd(places, pairs, slots);
         size_t spoilt = below(50) ? needed : below(needed);
-        uint64_t kept = spoilt < needed ? words[spoilt] : 0;
+        uint64_t kept = spoilt < needed ? next.words[spoilt] : 0;
         if (spoilt < needed)
-            words[spoilt] ^= 1;
+            next.words[spoilt] ^= 1;
         measure(which);
         if (spoilt < needed && which != is_open)
-            words[spoilt] = kept;
+            next.words[spoilt] = kept;
         if (which == is_dump && status == STRIKES_OK) {
-            memcpy(bytes, output, a);
-            bytes_length = below(4) ? a : below(a);
+            memcpy(next.bytes, next.out, told[0]);
+            next.bytes_length = below(4) ? told[0] : below(told[0]);
         }
     }
-    free(words);
-    free(output);
-    free(bytes);
+    free(next.words);
+    free(next.out);
+    free(next.bytes);
 }
 
 int main(void) {

@@ -2,7 +2,7 @@
 //! compared with the Rust.
 
 use calls::call::Ticket;
-use calls::{Answer, Call, Form, Limits, Machine, Settings, Start, Verdict, Who};
+use calls::{Answer, Call, Form, Limits, Look, Machine, Settings, Start, Verdict, Who};
 use strikes::raw::{self, Ask, Manner};
 use strikes::{Refusal, Verdict as Said};
 
@@ -123,15 +123,7 @@ fn serve(settings: &[u64], words: &mut [u64], call: &Call) -> Result<Answer, Ref
             let verdict = raw::ask(manner(*form), settings, words, &ask(ticket))?;
             Said::of(verdict).map_or(Answer::Broke, |said| Answer::Verdict(verdict_of(said)))
         }
-        Call::ContainsHash {
-            register,
-            fingerprint,
-        } => whether(raw::contains_hash(
-            settings,
-            words,
-            *register,
-            *fingerprint,
-        )?),
+        Call::Look(of) => look(settings, words, of)?,
         Call::Begin { register, number } => {
             match raw::begin(settings, words, *register, *number)? {
                 1 => Answer::Begun,
@@ -155,28 +147,6 @@ fn serve(settings: &[u64], words: &mut [u64], call: &Call) -> Result<Answer, Ref
             let (flag, floor) = proven.map_or((0, 0), |floor| (1, floor));
             restored(raw::resume(settings, words, *register, bytes, flag, floor)?)
         }
-        Call::Floor { register } => {
-            let (present, floor) = raw::floor(settings, words, *register)?;
-            Answer::Floor((present == 1).then_some(floor))
-        }
-        Call::Pending { register } => whether(raw::pending(settings, words, *register)?),
-        Call::Swept { register } => {
-            let (bucket, published) = raw::swept(settings, words, *register)?;
-            Answer::Swept { bucket, published }
-        }
-        Call::Held { who } => {
-            let (kind, number) = codes(*who);
-            Answer::Entries(raw::held(settings, words, kind, number)?)
-        }
-        Call::Class { class } => {
-            let (entries, holders, units, expired) = raw::class(settings, words, *class)?;
-            Answer::Class {
-                entries,
-                holders,
-                units,
-                expired,
-            }
-        }
         Call::Open { .. }
         | Call::Dump { .. }
         | Call::Lend { .. }
@@ -186,6 +156,32 @@ fn serve(settings: &[u64], words: &mut [u64], call: &Call) -> Result<Answer, Ref
         }
     })
 }
+
+/// Hands a reading call's parts to its entry point, one by one; a deliverer is two numbers there.
+macro_rules! hand {
+    ($name:ident($($handed:expr),*)) => {
+        raw::$name($($handed),*)
+    };
+    ($name:ident($($handed:expr),*) $who:ident: Who, $($left:tt)*) => {
+        hand!($name($($handed),*, codes($who).0, codes($who).1) $($left)*)
+    };
+    ($name:ident($($handed:expr),*) $number:ident, $($left:tt)*) => {
+        hand!($name($($handed),*, $number) $($left)*)
+    };
+}
+
+macro_rules! run {
+    ($($look:ident $name:ident($($part:ident $(: $of:ident)?),*) -> $answer:ident;)*) => {
+        /// A reading call at the entry point of its name.
+        fn look(settings: &[u64], words: &[u64], look: &Look) -> Result<Answer, Refusal> {
+            Ok(match *look {
+                $(Look::$look { $($part),* } => $answer(hand!($name(settings, words) $($part $(: $of)?,)*)?)),*
+            })
+        }
+    };
+}
+
+calls::looks!(run);
 
 /// A dump into an output of `length` bytes, or one that is long enough: no dump is longer than the words that it is of.
 fn dump(
@@ -218,6 +214,18 @@ fn refused(refusal: Refusal) -> Answer {
 
 fn whether(number: u64) -> Answer {
     Answer::Whether(number == 1)
+}
+
+fn perhaps((present, number): (u64, u64)) -> Answer {
+    Answer::Perhaps((present == 1).then_some(number))
+}
+
+fn number(number: u64) -> Answer {
+    Answer::Numbers(vec![number])
+}
+
+fn numbers<const N: usize>(numbers: impl Into<[u64; N]>) -> Answer {
+    Answer::Numbers(numbers.into().to_vec())
 }
 
 fn restored((whole, read): (u64, u64)) -> Answer {

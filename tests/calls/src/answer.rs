@@ -25,18 +25,8 @@ pub enum Answer {
     Bytes(Vec<u8>),
     Whole(u64),
     Partly(u64),
-    Floor(Option<u64>),
-    Swept {
-        bucket: u64,
-        published: u64,
-    },
-    Entries(u64),
-    Class {
-        entries: u64,
-        holders: u64,
-        units: u64,
-        expired: u64,
-    },
+    Perhaps(Option<u64>),
+    Numbers(Vec<u64>),
     Refused(u64),
     /// The tool does not run this call: its answer is not compared.
     Apart,
@@ -70,17 +60,11 @@ impl fmt::Display for Answer {
             Self::Bytes(bytes) => write!(f, "{}", Hex(bytes)),
             Self::Whole(read) => write!(f, "whole {read}"),
             Self::Partly(read) => write!(f, "partly {read}"),
-            Self::Floor(None) => f.write_str("none"),
-            Self::Floor(Some(floor)) => write!(f, "{floor}"),
-            Self::Swept { bucket, published } => write!(f, "{bucket} {published}"),
-            Self::Entries(entries) => write!(f, "{entries}"),
-            Self::Class {
-                entries,
-                holders,
-                units,
-                expired,
-            } => {
-                write!(f, "{entries} {holders} {units} {expired}")
+            Self::Perhaps(None) => f.write_str("none"),
+            Self::Perhaps(Some(number)) => write!(f, "{number}"),
+            Self::Numbers(numbers) => {
+                let numbers: Vec<String> = numbers.iter().map(u64::to_string).collect();
+                f.write_str(&numbers.join(" "))
             }
             Self::Refused(number) => write!(f, "{number}"),
             Self::Apart => f.write_str("-"),

@@ -3,6 +3,7 @@
 use std::fmt;
 
 use crate::bytes::Hex;
+use crate::look::Look;
 use crate::settings::{Limits, Settings};
 
 /// Where a register starts.
@@ -90,10 +91,7 @@ pub enum Call {
         form: Form,
         ticket: Ticket,
     },
-    ContainsHash {
-        register: u64,
-        fingerprint: u64,
-    },
+    Look(Look),
     Begin {
         register: u64,
         number: u64,
@@ -119,21 +117,6 @@ pub enum Call {
         register: u64,
         bytes: Vec<u8>,
         proven: Option<u64>,
-    },
-    Floor {
-        register: u64,
-    },
-    Pending {
-        register: u64,
-    },
-    Swept {
-        register: u64,
-    },
-    Held {
-        who: Who,
-    },
-    Class {
-        class: u64,
     },
     /// From now on so many words are lent.
     Lend {
@@ -255,12 +238,7 @@ impl fmt::Display for Call {
                 write_settings(f, settings, &[])
             }
             Self::Ask { form, ticket } => write!(f, "{form} {ticket}"),
-            Self::ContainsHash {
-                register,
-                fingerprint,
-            } => {
-                write!(f, "contains_hash {register} {fingerprint}")
-            }
+            Self::Look(look) => write!(f, "{look}"),
             Self::Begin { register, number } => write!(f, "begin {register} {number}"),
             Self::Expire { reading } => write!(f, "expire {reading}"),
             Self::Sweep { register, reading } => write!(f, "sweep {register} {reading}"),
@@ -286,11 +264,6 @@ impl fmt::Display for Call {
                     Some(floor) => write!(f, "{floor}"),
                 }
             }
-            Self::Floor { register } => write!(f, "floor {register}"),
-            Self::Pending { register } => write!(f, "pending {register}"),
-            Self::Swept { register } => write!(f, "swept {register}"),
-            Self::Held { who } => write!(f, "held {who}"),
-            Self::Class { class } => write!(f, "class {class}"),
             Self::Lend { words } => write!(f, "lend {words}"),
             Self::Poke { at, value } => write!(f, "poke {at} {value}"),
         }

@@ -114,7 +114,7 @@ fn smaller_words(word: &str) -> Vec<String> {
 #[cfg(test)]
 mod tests {
     use super::cut;
-    use crate::{Call, read};
+    use crate::{Call, Look, read};
 
     fn list(text: &str) -> Vec<Call> {
         let line = |line| read::line(line).expect("a line").expect("a call").call;
@@ -126,7 +126,7 @@ mod tests {
         // Shown by a floor of a register from 3 on, after a close.
         let shows = |list: &[Call]| {
             let closed = list.iter().position(|call| *call == Call::Close)?;
-            let floor = |call: &Call| matches!(call, Call::Floor { register } if *register >= 3);
+            let floor = |call: &Call| matches!(call, Call::Look(Look::Floor { register }) if *register >= 3);
             list[closed..].iter().position(floor).map(|at| closed + at)
         };
         let long = list("floor 9\nclose\nsweep 1 77\nfloor 2\nclose\nfloor 8000\nexpire 5");

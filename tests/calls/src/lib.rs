@@ -8,6 +8,7 @@ pub mod answer;
 pub mod bytes;
 pub mod call;
 pub mod cut;
+pub mod look;
 pub mod machine;
 pub mod program;
 pub mod read;
@@ -16,5 +17,6 @@ pub mod settings;
 
 pub use answer::{Answer, Verdict};
 pub use call::{Call, Form, Start, Who};
+pub use look::{Look, Part};
 pub use machine::Machine;
 pub use settings::{Limits, Settings, Window, Windows};

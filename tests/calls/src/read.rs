@@ -2,6 +2,7 @@
 
 use crate::bytes::of_hex;
 use crate::call::{Call, Form, Start, Ticket, Who};
+use crate::look::Look;
 use crate::settings::{Limits, Settings, Window, Windows};
 
 /// A call and the answer that the list records, its words parted by one blank each.
@@ -36,7 +37,7 @@ pub fn line(text: &str) -> Result<Option<Line>, String> {
     }
 }
 
-struct Words<'a>(std::vec::IntoIter<&'a str>);
+pub(crate) struct Words<'a>(std::vec::IntoIter<&'a str>);
 
 impl<'a> Words<'a> {
     fn word(&mut self, what: &str) -> Result<&'a str, String> {
@@ -49,6 +50,23 @@ impl<'a> Words<'a> {
 
     fn left(&self) -> usize {
         self.0.len()
+    }
+}
+
+/// A part of a reading call, from the next word of a line.
+pub(crate) trait FromLine: Sized {
+    fn read(words: &mut Words<'_>, name: &str) -> Result<Self, String>;
+}
+
+impl FromLine for u64 {
+    fn read(words: &mut Words<'_>, name: &str) -> Result<Self, String> {
+        words.number(&format!("the {name}"))
+    }
+}
+
+impl FromLine for Who {
+    fn read(words: &mut Words<'_>, _: &str) -> Result<Self, String> {
+        who(words.word("the deliverer")?)
     }
 }
 
@@ -66,10 +84,6 @@ fn read(name: &str, words: &mut Words<'_>) -> Result<Call, String> {
         "take" => ask(Form::Take, words)?,
         "judge_batch" => ask(Form::JudgeBatch, words)?,
         "take_batch" => ask(Form::TakeBatch, words)?,
-        "contains_hash" => Call::ContainsHash {
-            register: words.number("the register")?,
-            fingerprint: words.number("the fingerprint")?,
-        },
         "begin" => Call::Begin {
             register: words.number("the register")?,
             number: words.number("the floor")?,
@@ -99,21 +113,6 @@ fn read(name: &str, words: &mut Words<'_>) -> Result<Call, String> {
             bytes: bytes(words)?,
             proven: proven(words.word("the proven floor")?)?,
         },
-        "floor" => Call::Floor {
-            register: words.number("the register")?,
-        },
-        "pending" => Call::Pending {
-            register: words.number("the register")?,
-        },
-        "swept" => Call::Swept {
-            register: words.number("the register")?,
-        },
-        "held" => Call::Held {
-            who: who(words.word("the deliverer")?)?,
-        },
-        "class" => Call::Class {
-            class: words.number("the class")?,
-        },
         "lend" => Call::Lend {
             words: words.number("the number of words")?,
         },
@@ -121,7 +120,7 @@ fn read(name: &str, words: &mut Words<'_>) -> Result<Call, String> {
             at: words.number("the place")?,
             value: words.number("the value")?,
         },
-        _ => return Err(format!("there is no call '{name}'")),
+        _ => Call::Look(Look::read(name, words)?),
     })
 }
 
@@ -132,7 +131,7 @@ fn ask(form: Form, words: &mut Words<'_>) -> Result<Call, String> {
         stamp: words.number("the stamp")?,
         reading: words.number("the reading")?,
         flag: words.number("the flag")?,
-        who: who(words.word("the deliverer")?)?,
+        who: Who::read(words, "deliverer")?,
     };
     Ok(Call::Ask { form, ticket })
 }

@@ -124,7 +124,7 @@ impl Outcome {
 #[cfg(test)]
 mod tests {
     use super::{Outcome, Print, replay};
-    use crate::{Answer, Call, Machine};
+    use crate::{Answer, Call, Look, Machine};
 
     /// Answers every floor with 5, breaks at a class and runs nothing else.
     struct Five;
@@ -132,8 +132,8 @@ mod tests {
     impl Machine for Five {
         fn run(&mut self, call: &Call) -> Answer {
             match call {
-                Call::Floor { .. } => Answer::Floor(Some(5)),
-                Call::Class { .. } => Answer::Broke,
+                Call::Look(Look::Floor { .. }) => Answer::Perhaps(Some(5)),
+                Call::Look(Look::Class { .. }) => Answer::Broke,
                 _ => Answer::Apart,
             }
         }

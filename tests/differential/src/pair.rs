@@ -2,7 +2,7 @@
 
 use std::collections::BTreeSet;
 
-use calls::{Answer, Call, Machine, Settings, Who};
+use calls::{Answer, Call, Look, Machine, Settings, Who};
 use machine::Product;
 
 use crate::oracle::Oracle;
@@ -91,24 +91,52 @@ pub fn agree(theirs: &Answer, ours: &Answer) -> bool {
     *theirs == Answer::Apart || theirs == ours
 }
 
-/// The calls that tell everything.
+/// The calls that tell everything: the dumps, and each reading call of all that it can be asked of.
 fn looks(registers: u64, parties: &BTreeSet<Who>) -> Vec<Call> {
-    let mut calls = Vec::new();
-    for register in 0..registers {
-        calls.extend([
-            Call::Dump {
-                register,
-                length: None,
-            },
-            Call::Floor { register },
-            Call::Pending { register },
-            Call::Swept { register },
-        ]);
-    }
-    calls.extend(parties.iter().map(|who| Call::Held { who: *who }));
-    calls.extend((0..3).map(|class| Call::Held {
-        who: Who::Restored(class),
-    }));
-    calls.extend((0..3).map(|class| Call::Class { class }));
-    calls
+    let restored = (0..3).map(Who::Restored);
+    let all = All {
+        register: (0..registers).collect(),
+        who: parties.iter().copied().chain(restored).collect(),
+        class: (0..3).collect(),
+    };
+    let dump = |register| Call::Dump {
+        register,
+        length: None,
+    };
+    let dumps = (0..registers).map(dump);
+    dumps
+        .chain(all.looks().into_iter().map(Call::Look))
+        .collect()
 }
+
+/// What a reading call can be asked of, by the names of its parts.
+struct All {
+    register: Vec<u64>,
+    who: Vec<Who>,
+    class: Vec<u64>,
+}
+
+/// The calls of one name: of all that is of its part, and none where it has more than one.
+macro_rules! each {
+    ($all:ident, $look:ident($part:ident)) => {
+        $all.$part
+            .iter()
+            .map(|$part| Look::$look { $part: *$part })
+            .collect()
+    };
+    ($all:ident, $look:ident($($part:ident),*)) => {
+        Vec::new()
+    };
+}
+
+macro_rules! each_of_all {
+    ($($look:ident $name:ident($($part:ident $(: $of:ident)?),*) -> $answer:ident;)*) => {
+        impl All {
+            fn looks(&self) -> Vec<Look> {
+                [$(each!(self, $look($($part),*))),*].concat()
+            }
+        }
+    };
+}
+
+calls::looks!(each_of_all);

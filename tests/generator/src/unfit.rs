@@ -1,7 +1,7 @@
 //! Fit calls with one code or number put out of its bounds.
 
 use calls::call::Ticket;
-use calls::{Call, Form, Limits, Settings, Start, Who};
+use calls::{Call, Form, Limits, Look, Settings, Start, Who};
 
 use crate::random::Random;
 
@@ -106,13 +106,13 @@ pub fn call(fit: &Settings, ticket: Ticket, random: &mut Random) -> Call {
             ..ticket
         }),
         14 => Call::Limits(limits(fit.limits, random)),
-        15 => Call::Held { who: who(random) },
-        16 => Call::Held {
+        15 => Call::Look(Look::Held { who: who(random) }),
+        16 => Call::Look(Look::Held {
             who: by_code(random),
-        },
-        17 => Call::Class {
+        }),
+        17 => Call::Look(Look::Class {
             class: past(2, random),
-        },
+        }),
         18 => Call::Dump {
             register,
             length: Some(random.below(9)),
@@ -126,10 +126,10 @@ pub fn call(fit: &Settings, ticket: Ticket, random: &mut Random) -> Call {
             bytes: vec![0; random.below(40) as usize],
             proven: None,
         },
-        21 => Call::ContainsHash {
+        21 => Call::Look(Look::ContainsHash {
             register,
             fingerprint: ticket.fingerprint,
-        },
+        }),
         22 => Call::Begin {
             register,
             number: ticket.stamp,
@@ -141,8 +141,8 @@ pub fn call(fit: &Settings, ticket: Ticket, random: &mut Random) -> Call {
 fn look(register: u64, reading: u64, random: &mut Random) -> Call {
     match random.below(4) {
         0 => Call::Sweep { register, reading },
-        1 => Call::Floor { register },
-        2 => Call::Pending { register },
-        _ => Call::Swept { register },
+        1 => Call::Look(Look::Floor { register }),
+        2 => Call::Look(Look::Pending { register }),
+        _ => Call::Look(Look::Swept { register }),
     }
 }

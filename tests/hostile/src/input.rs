@@ -15,6 +15,11 @@ macro_rules! only_reads {
     () => { true };
 }
 
+/// The names of arguments.
+macro_rules! names {
+    ($($argument:ident $(: $run:ty)?),*) => { &[$(stringify!($argument)),*] };
+}
+
 macro_rules! list {
     ($($(#[$doc:meta])* $name:ident($($arguments:tt)*) -> ($($out:ident),*);)*) => {
         /// The entry points under the names that they have in the table (hosts/rust/src/entries.rs).
@@ -27,10 +32,17 @@ macro_rules! list {
         impl Entry {
             pub const ALL: &[Self] = &[$(Self::$name),*];
 
+            /// Its arguments by name.
+            pub fn arguments(self) -> &'static [&'static str] {
+                match self {
+                    $(Self::$name => names!($($arguments)*)),*
+                }
+            }
+
             /// Its out numbers by name.
             pub fn outs(self) -> &'static [&'static str] {
                 match self {
-                    $(Self::$name => &[$(stringify!($out)),*]),*
+                    $(Self::$name => names!($($out),*)),*
                 }
             }
 
@@ -46,13 +58,14 @@ macro_rules! list {
 
 strikes::entries!(list);
 
-/// The numbers that entry points take, by name; each takes some of them.
+/// The numbers that entry points take, under the names of the arguments; each takes some of them.
 #[derive(Clone, Copy, Debug, Default)]
 pub struct Numbers {
     pub register: u64,
     pub fingerprint: u64,
-    /// Of a ticket; and the floor that a host brings.
     pub stamp: u64,
+    /// Near the clock, as a stamp is: it is the same.
+    pub floor: u64,
     pub reading: u64,
     pub flag: u64,
     pub kind: u64,
@@ -92,53 +105,20 @@ impl Input {
         }
     }
 
-    /// What of it can earn a refusal.
+    /// What of it can earn a refusal: what its entry point takes, by the names of the arguments.
     pub fn call(&self) -> Call<'_> {
-        let Numbers {
-            register,
-            flag,
-            kind,
-            number,
-            class,
-            ..
-        } = self.numbers;
-        match self.entry {
-            Entry::words_needed => Call::WordsNeeded,
-            Entry::open => Call::Open {
-                limits: &self.limits,
-                starts: &self.starts,
-            },
-            Entry::judge | Entry::judge_batch | Entry::take | Entry::take_batch => Call::Ask {
-                register,
-                flag,
-                kind,
-                number,
-            },
-            Entry::contains_hash
-            | Entry::begin
-            | Entry::sweep
-            | Entry::floor
-            | Entry::pending
-            | Entry::swept => Call::On { register },
-            Entry::expire | Entry::close => Call::Plain,
-            Entry::set_limits => Call::Limits {
-                limits: &self.limits,
-            },
-            Entry::dump => Call::Dump {
-                register,
-                out: self.out.len(),
-            },
-            Entry::restore => Call::Restore {
-                register,
-                bytes: &self.bytes,
-            },
-            Entry::resume => Call::Resume {
-                register,
-                bytes: &self.bytes,
-                flag,
-            },
-            Entry::held => Call::Held { kind, number },
-            Entry::class => Call::Class { class },
+        let n = self.numbers;
+        let takes = |argument| self.entry.arguments().contains(&argument);
+        Call {
+            words: takes("words").then_some(&self.words),
+            limits: takes("limits").then_some(&self.limits),
+            starts: takes("starts").then_some(&self.starts),
+            register: takes("register").then_some(n.register),
+            flag: takes("flag").then_some(n.flag),
+            deliverer: takes("kind").then_some((n.kind, n.number)),
+            class: takes("class").then_some(n.class),
+            bytes: takes("bytes").then_some(&self.bytes),
+            out: takes("out").then_some(self.out.len()),
         }
     }
 }
@@ -228,7 +208,7 @@ fn numbers(scene: &Scene, random: &mut Random) -> Numbers {
             .wrapping_add(random.below(20_000))
             .wrapping_sub(10_000),
     };
-    Numbers {
+    let mut numbers = Numbers {
         register: match random.below(12) {
             0 => registers,
             1 => random.word(),
@@ -261,7 +241,10 @@ fn numbers(scene: &Scene, random: &mut Random) -> Numbers {
         } else {
             anything(random)
         },
-    }
+        floor: 0,
+    };
+    numbers.floor = numbers.stamp;
+    numbers
 }
 
 /// The bytes of a dump: good, damaged, or any.

@@ -19,7 +19,7 @@ fn most(input: &Input, out: &str) -> u64 {
 
 /// The refusal that was due, or what is wrong.
 pub fn judge(lent: &mut Lent, input: &Input, against: Against) -> Result<Due, String> {
-    let due = refusal(&input.settings, &input.words, input.call());
+    let due = refusal(&input.settings, &input.call());
     let after = lent.run(input, against);
     if after.number != due.number() {
         return Err(format!(

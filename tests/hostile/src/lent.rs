@@ -3,7 +3,7 @@
 use strikes::abi;
 
 use crate::guard::{Against, Region};
-use crate::input::{Entry, Input};
+use crate::input::{Entry, Input, Numbers};
 
 /// The out numbers of an entry point, at most.
 const OUTS: usize = 4;
@@ -82,7 +82,6 @@ impl Lent {
     }
 
     fn lay(&mut self, input: &Input, against: Against) -> At {
-        let n = input.numbers;
         At {
             settings: self.settings.lay_words(&input.settings, against),
             words: self.words.lay_words(&input.words, against),
@@ -90,21 +89,13 @@ impl Lent {
             starts: self.starts.lay_words(&input.starts, against),
             bytes: self.bytes.lay(&input.bytes, against),
             out: self.out.lay(&input.out, against),
-            register: n.register,
-            fingerprint: n.fingerprint,
-            stamp: n.stamp,
-            reading: n.reading,
-            flag: n.flag,
-            kind: n.kind,
-            number: n.number,
-            class: n.class,
-            floor: n.stamp,
+            numbers: input.numbers,
             outs: self.numbers.lay_words(&BEFORE, against),
         }
     }
 }
 
-/// The arguments of all entry points by their names, and where the out numbers lie.
+/// The arguments of all entry points by their names: runs, and numbers; and where the out numbers lie.
 struct At {
     settings: *const [u64],
     words: *mut [u64],
@@ -112,16 +103,17 @@ struct At {
     starts: *const [u64],
     bytes: *const [u8],
     out: *mut [u8],
-    register: u64,
-    fingerprint: u64,
-    stamp: u64,
-    reading: u64,
-    flag: u64,
-    kind: u64,
-    number: u64,
-    class: u64,
-    floor: u64,
+    numbers: Numbers,
     outs: *mut [u64],
+}
+
+macro_rules! argument {
+    ($at:ident, $run:ident: $of:ty) => {
+        $at.$run
+    };
+    ($at:ident, $number:ident) => {
+        $at.numbers.$number
+    };
 }
 
 macro_rules! calls {
@@ -136,7 +128,7 @@ macro_rules! calls {
                 None => panic!("there is no place for {out}"),
             };
             match entry {
-                $(Entry::$name => unsafe { abi::$name($(at.$arg,)* $(place_of(stringify!($out))),*) }),*
+                $(Entry::$name => unsafe { abi::$name($(argument!(at, $arg $(: $run)?),)* $(place_of(stringify!($out))),*) }),*
             }
         }
     };

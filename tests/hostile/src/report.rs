@@ -104,46 +104,72 @@ fn open_line(settings: &[u64]) -> String {
 }
 
 fn call_line(input: &Input) -> String {
+    let Input { limits, starts, .. } = input;
+    let name = match input.entry {
+        Entry::words_needed => return "# words_needed".into(),
+        Entry::open => return format!("# open with limits {limits:?} and starts {starts:?}"),
+        Entry::resume => return resume_line(input),
+        Entry::set_limits => "limits".into(),
+        // Its name in a list is that of the table.
+        entry => format!("{entry:?}"),
+    };
+    let parts = arguments(input).into_iter().filter(|part| !part.is_empty());
+    parts.fold(name, |line, part| format!("{line} {part}"))
+}
+
+fn resume_line(input: &Input) -> String {
     let Numbers {
         register,
-        fingerprint,
-        stamp,
-        reading,
         flag,
-        kind,
-        number,
-        class,
+        floor,
+        ..
     } = input.numbers;
-    let (limits, bytes) = (&input.limits, Hex(&input.bytes));
-    let parts = match input.entry {
-        Entry::words_needed => return "# words_needed".into(),
-        Entry::close => return "close".into(),
-        Entry::open => {
-            return format!(
-                "# open with limits {limits:?} and starts {:?}",
-                input.starts
-            );
-        }
-        Entry::set_limits => {
-            return limits
-                .iter()
-                .fold("limits".into(), |line, limit| format!("{line} {limit}"));
-        }
-        Entry::judge | Entry::judge_batch | Entry::take | Entry::take_batch => {
-            format!("{register} {fingerprint} {stamp} {reading} {flag} k:{kind}:{number}")
-        }
-        Entry::contains_hash => format!("{register} {fingerprint}"),
-        Entry::begin => format!("{register} {stamp}"),
-        Entry::expire => format!("{reading}"),
-        Entry::sweep => format!("{register} {reading}"),
-        Entry::dump => format!("{register} {}", input.out.len()),
-        Entry::restore => format!("{register} {bytes}"),
-        Entry::resume if flag == 1 => format!("{register} {bytes} {stamp}"),
-        Entry::resume => format!("{register} {bytes} none"),
-        Entry::floor | Entry::pending | Entry::swept => format!("{register}"),
-        Entry::held => format!("k:{kind}:{number}"),
-        Entry::class => format!("{class}"),
+    let proven = match flag {
+        1 => floor.to_string(),
+        _ => "none".into(),
     };
-    // Its name in a list is that of the table.
-    format!("{:?} {parts}", input.entry)
+    format!("resume {register} {} {proven}", Hex(&input.bytes))
+}
+
+macro_rules! argument {
+    ($input:ident, $run:ident: $of:ty) => {
+        run($input, stringify!($run))
+    };
+    ($input:ident, $number:ident) => {
+        number($input, stringify!($number), $input.numbers.$number)
+    };
+}
+
+macro_rules! arguments {
+    ($($(#[$doc:meta])* $name:ident($($argument:ident $(: $run:ty)?),*) -> $outs:tt;)*) => {
+        /// The arguments of the entry point as a list has them; empty where a list leaves one out.
+        fn arguments(input: &Input) -> Vec<String> {
+            match input.entry {
+                $(Entry::$name => vec![$(argument!(input, $argument $(: $run)?)),*]),*
+            }
+        }
+    };
+}
+
+strikes::entries!(arguments);
+
+fn run(input: &Input, name: &str) -> String {
+    match name {
+        "limits" => {
+            let limits: Vec<String> = input.limits.iter().map(u64::to_string).collect();
+            limits.join(" ")
+        }
+        "bytes" => Hex(&input.bytes).to_string(),
+        "out" => input.out.len().to_string(),
+        _ => String::new(),
+    }
+}
+
+fn number(input: &Input, name: &str, number: u64) -> String {
+    match name {
+        "kind" => format!("k:{number}:{}", input.numbers.number),
+        // It stands with its kind.
+        "number" => String::new(),
+        _ => number.to_string(),
+    }
 }

@@ -4,7 +4,7 @@
 use std::sync::Arc;
 
 use calls::call::Ticket;
-use calls::{Answer, Form, Limits, Settings, Start, Verdict, Who};
+use calls::{Answer, Form, Limits, Look, Settings, Start, Verdict, Who};
 use relay::footprint;
 use relay::ingest::Stamp;
 use relay::stage::{self, Stage};
@@ -83,10 +83,6 @@ impl Book {
         })
     }
 
-    pub fn contains_hash(&self, register: u64, fingerprint: u64) -> bool {
-        self.tables[register as usize].contains_hash(&Hash(fingerprint))
-    }
-
     pub fn begin(&mut self, register: u64, number: u64) -> Answer {
         match self.tables[register as usize].begin(Judged(number)) {
             Begun::Begun => Answer::Begun,
@@ -132,31 +128,38 @@ impl Book {
         restored(self.tables[register as usize].resume(bytes, proven))
     }
 
-    pub fn floor(&self, register: u64) -> Option<u64> {
-        self.tables[register as usize].floor_ms()
-    }
-
-    pub fn pending(&self, register: u64) -> bool {
-        self.tables[register as usize].is_pending()
-    }
-
-    pub fn swept(&self, register: u64) -> Answer {
-        let (bucket, published) = reading::swept(&self.tables[register as usize]);
-        Answer::Swept { bucket, published }
-    }
-
-    pub fn held(&self, who: Who) -> u64 {
-        reading::held(&self.shares, deliverer(who)) as u64
-    }
-
-    pub fn class(&self, class: u64) -> Answer {
-        let (entries, holders, place_units, expired) =
-            reading::class(&self.shares, CLASSES[class as usize]);
-        Answer::Class {
-            entries: entries as u64,
-            holders: holders as u64,
-            units: (entries + place_units) as u64,
-            expired: u64::from(expired),
+    /// A call that only reads.
+    pub fn look(&self, look: &Look) -> Answer {
+        let table = |register: u64| &self.tables[register as usize];
+        match *look {
+            Look::ContainsHash {
+                register,
+                fingerprint,
+            } => Answer::Whether(table(register).contains_hash(&Hash(fingerprint))),
+            Look::Floor { register } => Answer::Perhaps(table(register).floor_ms()),
+            Look::Pending { register } => Answer::Whether(table(register).is_pending()),
+            Look::Swept { register } => {
+                let (bucket, published) = reading::swept(table(register));
+                Answer::Numbers(vec![bucket, published])
+            }
+            Look::Held { who } => {
+                let who = deliverer(who.listed().expect("refused as unfit"));
+                Answer::Numbers(vec![reading::held(&self.shares, who) as u64])
+            }
+            Look::Class { class } => {
+                let (entries, holders, place_units, expired) =
+                    reading::class(&self.shares, CLASSES[class as usize]);
+                let units = entries + place_units;
+                Answer::Numbers(vec![
+                    entries as u64,
+                    holders as u64,
+                    units as u64,
+                    expired.into(),
+                ])
+            }
+            // One that the Rust has no answer to, if there is any.
+            #[allow(unreachable_patterns)]
+            _ => Answer::Apart,
         }
     }
 }

@@ -133,10 +133,7 @@ fn serve(book: &mut Book, call: &Call) -> Answer {
             let who = ticket.who.listed().expect("refused as unfit");
             Answer::Verdict(book.ask(*form, ticket, who))
         }
-        Call::ContainsHash {
-            register,
-            fingerprint,
-        } => Answer::Whether(book.contains_hash(*register, *fingerprint)),
+        Call::Look(look) => book.look(look),
         Call::Begin { register, number } => book.begin(*register, *number),
         Call::Expire { reading } => book.expire(*reading),
         Call::Sweep { register, reading } => book.sweep(*register, *reading),
@@ -149,11 +146,6 @@ fn serve(book: &mut Book, call: &Call) -> Answer {
             bytes,
             proven,
         } => book.resume(*register, bytes, *proven),
-        Call::Floor { register } => Answer::Floor(book.floor(*register)),
-        Call::Pending { register } => Answer::Whether(book.pending(*register)),
-        Call::Swept { register } => book.swept(*register),
-        Call::Held { who } => Answer::Entries(book.held(who.listed().expect("refused as unfit"))),
-        Call::Class { class } => book.class(*class),
         Call::Open { .. } | Call::Lend { .. } | Call::Bring(_) | Call::Poke { .. } => {
             unreachable!("served elsewhere")
         }

@@ -5,7 +5,7 @@
 //! the length of the Rust's dump with the output's. 2 and 3 speak of lent words, which the Rust
 //! does not have: what would be refused with them is not run at all (`oracle.rs`).
 
-use calls::{Call, Settings, Start};
+use calls::{Call, Part, Settings, Start};
 
 pub const UNFIT: u64 = 1;
 pub const NO_REGISTER: u64 = 4;
@@ -30,8 +30,16 @@ pub fn unfit(call: &Call) -> bool {
         }
         Call::Ask { ticket, .. } => ticket.flag > 1 || ticket.who.listed().is_none(),
         Call::Limits(limits) => !limits.fit(),
-        Call::Held { who } => who.listed().is_none(),
-        Call::Class { class } => *class > 2,
+        Call::Look(look) => look.parts().into_iter().any(unlisted),
+        _ => false,
+    }
+}
+
+/// Whether a part of a reading call is a deliverer or a class that is not there.
+fn unlisted(part: (&str, Part)) -> bool {
+    match part {
+        (_, Part::Who(who)) => who.listed().is_none(),
+        ("class", Part::Number(class)) => class > 2,
         _ => false,
     }
 }
@@ -43,15 +51,15 @@ fn listed(start: Start) -> bool {
 fn register(call: &Call) -> Option<u64> {
     match call {
         Call::Ask { ticket, .. } => Some(ticket.register),
-        Call::ContainsHash { register, .. }
-        | Call::Begin { register, .. }
+        Call::Look(look) => look.parts().into_iter().find_map(|part| match part {
+            ("register", Part::Number(register)) => Some(register),
+            _ => None,
+        }),
+        Call::Begin { register, .. }
         | Call::Sweep { register, .. }
         | Call::Dump { register, .. }
         | Call::Restore { register, .. }
-        | Call::Resume { register, .. }
-        | Call::Floor { register }
-        | Call::Pending { register }
-        | Call::Swept { register } => Some(*register),
+        | Call::Resume { register, .. } => Some(*register),
         _ => None,
     }
 }

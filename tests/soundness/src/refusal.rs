@@ -5,50 +5,22 @@ use calls::{Limits, Settings};
 use crate::words::broken;
 use crate::{Broken, settings_of};
 
-/// What of a call's own arguments can earn a refusal.
-#[derive(Clone, Copy, Debug)]
-pub enum Call<'a> {
-    WordsNeeded,
-    Open {
-        limits: &'a [u64],
-        starts: &'a [u64],
-    },
-    /// Judge, take and their batch forms.
-    Ask {
-        register: u64,
-        flag: u64,
-        kind: u64,
-        number: u64,
-    },
-    /// Any other call on a register that can fail in its number alone.
-    On {
-        register: u64,
-    },
-    Dump {
-        register: u64,
-        out: usize,
-    },
-    Restore {
-        register: u64,
-        bytes: &'a [u8],
-    },
-    Resume {
-        register: u64,
-        bytes: &'a [u8],
-        flag: u64,
-    },
-    Limits {
-        limits: &'a [u64],
-    },
-    Held {
-        kind: u64,
-        number: u64,
-    },
-    Class {
-        class: u64,
-    },
-    /// Expire and close.
-    Plain,
+/// What of a call's arguments, beside the settings, can earn a refusal. What it does not take is None.
+#[derive(Clone, Copy, Debug, Default)]
+pub struct Call<'a> {
+    pub words: Option<&'a [u64]>,
+    pub limits: Option<&'a [u64]>,
+    /// An opening alone takes them.
+    pub starts: Option<&'a [u64]>,
+    pub register: Option<u64>,
+    pub flag: Option<u64>,
+    /// A kind and a number.
+    pub deliverer: Option<(u64, u64)>,
+    pub class: Option<u64>,
+    /// A dump to be read.
+    pub bytes: Option<&'a [u8]>,
+    /// The length of an output for a dump.
+    pub out: Option<usize>,
 }
 
 /// What refuses a call, with the rule that the words break.
@@ -70,50 +42,55 @@ impl Due {
 }
 
 /// The refusal that is due, or none.
-pub fn refusal(settings: &[u64], words: &[u64], call: Call<'_>) -> Due {
+pub fn refusal(settings: &[u64], call: &Call<'_>) -> Due {
     let Some(settings) = settings_of(settings).filter(|settings| fits(settings, call)) else {
         return Due::Number(1);
     };
-    if matches!(call, Call::WordsNeeded) {
+    let Some(words) = call.words else {
         return Due::No;
-    }
+    };
     if (words.len() as u64) < settings.words() {
         return Due::Number(2);
     }
-    if matches!(call, Call::Open { .. }) {
+    // An opening overwrites the words, whatever they hold.
+    if call.starts.is_some() {
         return Due::No;
     }
     if let Some(rule) = broken(&settings, words) {
         return Due::Unsound(rule);
     }
-    if register(call).is_some_and(|register| register >= settings.registers) {
+    match call.register {
+        Some(register) => on_register(&settings, words, register, call),
+        None => Due::No,
+    }
+}
+
+/// Of a call on a register, whose words are sound.
+fn on_register(settings: &Settings, words: &[u64], register: u64, call: &Call<'_>) -> Due {
+    if register >= settings.registers {
         return Due::Number(4);
     }
-    let number = match call {
-        Call::Dump { register, out } => dump_refusal(&settings, words, register, out),
-        Call::Restore { bytes, .. } | Call::Resume { bytes, .. } if length_of(bytes).is_none() => 7,
-        _ => 0,
-    };
-    if number == 0 {
-        Due::No
-    } else {
-        Due::Number(number)
+    if let Some(number) = call
+        .out
+        .and_then(|out| dump_refusal(settings, words, register, out))
+    {
+        return Due::Number(number);
+    }
+    match call.bytes {
+        Some(bytes) if length_of(bytes).is_none() => Due::Number(7),
+        _ => Due::No,
     }
 }
 
 /// Whether its codes are listed and its numbers within their bounds.
-fn fits(settings: &Settings, call: Call<'_>) -> bool {
-    match call {
-        Call::Open { limits, starts } => limits_fit(limits) && starts_fit(settings, starts),
-        Call::Ask {
-            flag, kind, number, ..
-        } => flag <= 1 && deliverer_fits(kind, number),
-        Call::Resume { flag, .. } => flag <= 1,
-        Call::Limits { limits } => limits_fit(limits),
-        Call::Held { kind, number } => deliverer_fits(kind, number),
-        Call::Class { class } => class <= 2,
-        _ => true,
-    }
+fn fits(settings: &Settings, call: &Call<'_>) -> bool {
+    call.limits.is_none_or(limits_fit)
+        && call
+            .starts
+            .is_none_or(|starts| starts_fit(settings, starts))
+        && call.flag.is_none_or(|flag| flag <= 1)
+        && call.deliverer.is_none_or(deliverer_fits)
+        && call.class.is_none_or(|class| class <= 2)
 }
 
 fn limits_fit(limits: &[u64]) -> bool {
@@ -130,30 +107,19 @@ fn starts_fit(settings: &Settings, starts: &[u64]) -> bool {
 }
 
 /// Feeder 0, Peer 1, Relay 2 with any number, Restored 3 with a class.
-fn deliverer_fits(kind: u64, number: u64) -> bool {
+fn deliverer_fits((kind, number): (u64, u64)) -> bool {
     kind <= 2 || kind == 3 && number <= 2
 }
 
-fn register(call: Call<'_>) -> Option<u64> {
-    match call {
-        Call::Ask { register, .. }
-        | Call::On { register }
-        | Call::Dump { register, .. }
-        | Call::Restore { register, .. }
-        | Call::Resume { register, .. } => Some(register),
-        _ => None,
-    }
-}
-
 /// 6 for a register that is pending, 5 for an output shorter than its dump.
-fn dump_refusal(settings: &Settings, words: &[u64], register: u64, out: usize) -> u64 {
+fn dump_refusal(settings: &Settings, words: &[u64], register: u64, out: usize) -> Option<u64> {
     let place = 2 * settings.pairs as usize + 4;
     let mut at = 20 + 3 * (4 + settings.places as usize * place);
     for windows in &settings.windows[..register as usize] {
         at += 24 + 3 * windows.ring() as usize * (windows.slots as usize + 4);
     }
     if words[at + 10] == 1 {
-        return 6;
+        return Some(6);
     }
     let windows = settings.windows[register as usize];
     let generations = words[at + 24..]
@@ -164,11 +130,7 @@ fn dump_refusal(settings: &Settings, words: &[u64], register: u64, out: usize) -
         .filter(|generation| generation[1] != 0)
         .map(|generation| 3 + generation[1])
         .sum();
-    if (out as u64) < 8 * (4 + listed) {
-        5
-    } else {
-        0
-    }
+    ((out as u64) < 8 * (4 + listed)).then_some(5)
 }
 
 /// The bytes that a dump takes of `bytes`; none where it is cut short. Reckoned in 128 bits.

@@ -114,12 +114,15 @@ fn each_rule_is_noticed() {
 #[test]
 fn refusals_come_in_their_order() {
     let (settings, words) = (settings(), taken());
-    let number = |settings: &[u64], words: &[u64], call| refusal(settings, words, call).number();
-    let ask = |register, flag| Call::Ask {
-        register,
-        flag,
-        kind: 0,
-        number: 1,
+    let number = |settings: &[u64], words: &[u64], call| {
+        let words = Some(words);
+        refusal(settings, &Call { words, ..call }).number()
+    };
+    let ask = |register, flag| Call {
+        register: Some(register),
+        flag: Some(flag),
+        deliverer: Some((0, 1)),
+        ..Call::default()
     };
     assert_eq!(number(&settings, &words, ask(0, 1)), 0);
     assert_eq!(number(&settings[1..], &words, ask(0, 1)), 1);
@@ -129,75 +132,72 @@ fn refusals_come_in_their_order() {
     other[9] = 2;
     assert_eq!(number(&other, &words, ask(9, 1)), 3);
     assert_eq!(number(&settings, &words, ask(1, 1)), 4);
-    assert_eq!(
-        number(
-            &settings,
-            &words,
-            Call::Dump {
-                register: 0,
-                out: 63
-            }
-        ),
-        5
-    );
-    assert_eq!(
-        number(
-            &settings,
-            &words,
-            Call::Dump {
-                register: 0,
-                out: 64
-            }
-        ),
-        0
-    );
+    let dump = |out| Call {
+        register: Some(0),
+        out: Some(out),
+        ..Call::default()
+    };
+    assert_eq!(number(&settings, &words, dump(63)), 5);
+    assert_eq!(number(&settings, &words, dump(64)), 0);
     let mut pending = words.clone();
     pending[REGISTER + 10] = 1;
-    assert_eq!(
-        number(
-            &settings,
-            &pending,
-            Call::Dump {
-                register: 0,
-                out: 0
-            }
-        ),
-        6
-    );
-    assert_eq!(
-        number(
-            &settings,
-            &words,
-            Call::Restore {
-                register: 0,
-                bytes: &[0; 31]
-            }
-        ),
-        7
-    );
-    assert_eq!(
-        number(
-            &settings,
-            &words,
-            Call::Restore {
-                register: 0,
-                bytes: &[0; 32]
-            }
-        ),
-        0
-    );
+    assert_eq!(number(&settings, &pending, dump(0)), 6);
+    let restore = |bytes| Call {
+        register: Some(0),
+        bytes: Some(bytes),
+        ..Call::default()
+    };
+    assert_eq!(number(&settings, &words, restore(&[0; 31])), 7);
+    assert_eq!(number(&settings, &words, restore(&[0; 32])), 0);
     let mut long = [0; 56];
     long[8] = 1;
     long[32..40].copy_from_slice(&((1u64 << 61) - 3).to_le_bytes());
-    assert_eq!(
-        number(
-            &settings,
-            &words,
-            Call::Restore {
-                register: 0,
-                bytes: &long
-            }
-        ),
-        7
-    );
+    assert_eq!(number(&settings, &words, restore(&long)), 7);
+}
+
+#[test]
+fn each_argument_earns_its_refusal() {
+    let (settings, words) = (settings(), taken());
+    let number = |words, call| refusal(&settings, &Call { words, ..call }).number();
+    let all = Some(&words[..]);
+    let unfit = [
+        Call {
+            limits: Some(&[0; 4]),
+            ..Call::default()
+        },
+        Call {
+            limits: Some(&[0, 0, 0, 0, 1_000_001]),
+            ..Call::default()
+        },
+        Call {
+            starts: Some(&[3, 0, 0, 0, 0, 0, 0, 0]),
+            ..Call::default()
+        },
+        Call {
+            flag: Some(2),
+            ..Call::default()
+        },
+        Call {
+            deliverer: Some((3, 3)),
+            ..Call::default()
+        },
+        Call {
+            class: Some(3),
+            ..Call::default()
+        },
+    ];
+    for call in unfit {
+        assert_eq!(number(all, call), 1, "{call:?}");
+    }
+    // An opening needs room alone, and the words needed are told without any.
+    let open = Call {
+        limits: Some(&[0; 5]),
+        starts: Some(&[2, 9, 3, 3, 3, 3, 3, 3]),
+        ..Call::default()
+    };
+    assert_eq!(number(Some(&words[1..]), open), 2);
+    assert_eq!(number(Some(&[9; NEEDED]), open), 0);
+    assert_eq!(number(Some(&[9; NEEDED]), Call::default()), 3);
+    assert_eq!(number(all, Call::default()), 0);
+    assert_eq!(number(None, Call::default()), 0);
 }

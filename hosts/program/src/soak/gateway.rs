@@ -4,7 +4,9 @@
 use std::collections::HashMap;
 
 use calls::call::Ticket;
-use calls::{Answer, Call, Form, Limits, Machine, Settings, Start, Verdict, Who, Window, Windows};
+use calls::{
+    Answer, Call, Form, Limits, Look, Machine, Settings, Start, Verdict, Who, Window, Windows,
+};
 use generator::ledger::Ledger;
 use machine::Product;
 
@@ -145,8 +147,8 @@ impl Gateway {
 
     /// A register's floor.
     pub fn floor(&mut self, register: u64) -> Result<Option<u64>, String> {
-        match self.call(Call::Floor { register })? {
-            Answer::Floor(floor) => Ok(floor),
+        match self.call(Call::Look(Look::Floor { register }))? {
+            Answer::Perhaps(floor) => Ok(floor),
             other => Err(format!("{other} is no floor")),
         }
     }

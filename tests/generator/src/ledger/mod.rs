@@ -16,7 +16,7 @@ mod table;
 use std::collections::HashSet;
 
 use calls::call::Ticket;
-use calls::{Answer, Call, Form, Start, Verdict};
+use calls::{Answer, Call, Form, Look, Start, Verdict};
 
 use crate::dump::{self, Dump};
 pub use shares::Cause;
@@ -111,7 +111,12 @@ impl Ledger {
                 },
                 _,
             ) => self.restored(*register as usize, bytes, true, answer),
-            _ => self.looked(call, answer),
+            (Call::Dump { register, .. }, _) => {
+                self.tables[*register as usize].dumped(answer)?;
+                Ok(Noted::default())
+            }
+            (Call::Look(look), _) => self.looked(look, answer),
+            _ => Ok(Noted::default()),
         }
     }
 
@@ -241,29 +246,24 @@ impl Ledger {
         whole
     }
 
-    /// A call that only looks.
-    fn looked(&self, call: &Call, answer: &Answer) -> Seen {
+    /// A call that only reads.
+    fn looked(&self, look: &Look, answer: &Answer) -> Seen {
         let table = |register: u64| &self.tables[register as usize];
-        let due = match call {
-            Call::ContainsHash {
+        let due = match look {
+            Look::ContainsHash {
                 register,
                 fingerprint,
             } => Answer::Whether(table(*register).holds_anywhere((*fingerprint).max(1))),
-            Call::Pending { register } => Answer::Whether(table(*register).pending),
-            Call::Swept { register } => {
+            Look::Pending { register } => Answer::Whether(table(*register).pending),
+            Look::Swept { register } => {
                 let table = table(*register);
-                Answer::Swept {
-                    bucket: table.swept,
-                    published: table.published(),
-                }
+                Answer::Numbers(vec![table.swept, table.published()])
             }
-            Call::Held { who } => {
-                Answer::Entries(self.shares.held(who.listed().expect("not refused")))
+            Look::Held { who } => {
+                Answer::Numbers(vec![self.shares.held(who.listed().expect("not refused"))])
             }
-            Call::Class { class } => self.shares.class(*class as usize),
-            Call::Dump { register, .. } => {
-                return table(*register).dumped(answer).map(|()| Noted::default());
-            }
+            Look::Class { class } => self.shares.class(*class as usize),
+            // No floor is kept here.
             _ => return Ok(Noted::default()),
         };
         plain(*answer == due, || format!("{due} is due"))

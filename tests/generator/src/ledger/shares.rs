@@ -224,14 +224,15 @@ impl Shares {
         self.classes[who.class()].entries(who)
     }
 
+    /// A class's entries, holders, units and `expired`.
     pub fn class(&self, class: usize) -> Answer {
         let class = &self.classes[class];
-        Answer::Class {
-            entries: class.all_entries(),
-            holders: class.places.len() as u64,
-            units: self.units(class),
-            expired: class.expired,
-        }
+        Answer::Numbers(vec![
+            class.all_entries(),
+            class.places.len() as u64,
+            self.units(class),
+            class.expired,
+        ])
     }
 }
 

@@ -1,6 +1,6 @@
 //! The host's calls beside tickets and dumps.
 
-use calls::Call;
+use calls::{Call, Look};
 
 use super::Scene;
 use crate::unfit;
@@ -22,9 +22,9 @@ impl Scene {
         let sweeps = (0..self.settings.registers).map(|register| Call::Sweep { register, reading });
         self.ahead.extend(sweeps);
         self.ahead.push_back(Call::Expire { reading });
-        self.ahead.push_back(Call::Class {
+        self.ahead.push_back(Call::Look(Look::Class {
             class: self.random.below(3),
-        });
+        }));
         self.ahead.pop_front().expect("a sweep for each register")
     }
 
@@ -43,15 +43,15 @@ impl Scene {
 
     pub(super) fn look(&mut self) -> Call {
         let register = self.register();
-        match self.random.below(5) {
-            0 => Call::Floor { register },
-            1 => Call::Pending { register },
-            2 => Call::Swept { register },
-            3 => Call::Held { who: self.who() },
-            _ => Call::Class {
+        Call::Look(match self.random.below(5) {
+            0 => Look::Floor { register },
+            1 => Look::Pending { register },
+            2 => Look::Swept { register },
+            3 => Look::Held { who: self.who() },
+            _ => Look::Class {
                 class: self.random.below(3),
             },
-        }
+        })
     }
 
     pub(super) fn unfit(&mut self) -> Call {

@@ -10,7 +10,7 @@ mod ticket;
 use std::collections::VecDeque;
 
 use calls::call::Ticket;
-use calls::{Answer, Call, Form, Settings};
+use calls::{Answer, Call, Form, Look, Settings};
 
 use crate::profile::{Profile, Weights};
 use crate::random::Random;
@@ -75,7 +75,7 @@ impl Scene {
             (Call::Dump { .. }, Answer::Bytes(bytes)) => {
                 keep(&mut self.dumps, DUMPS, bytes.clone())
             }
-            (Call::Floor { register }, Answer::Floor(Some(floor))) => {
+            (Call::Look(Look::Floor { register }), Answer::Perhaps(Some(floor))) => {
                 self.floors[*register as usize] = *floor;
                 let windows = self.settings.windows[*register as usize];
                 if *floor > self.reading.saturating_add(windows.ahead()) {

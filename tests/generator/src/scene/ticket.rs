@@ -1,7 +1,7 @@
 //! Tickets, new ones and those brought before.
 
 use calls::call::Ticket;
-use calls::{Call, Form, Who};
+use calls::{Call, Form, Look, Who};
 
 use super::Scene;
 use crate::profile::Clock;
@@ -118,9 +118,9 @@ impl Scene {
             Some(ticket) if self.random.percent(60) => ticket.fingerprint,
             _ => self.fingerprint(),
         };
-        Call::ContainsHash {
+        Call::Look(Look::ContainsHash {
             register,
             fingerprint,
-        }
+        })
     }
 }
