@@ -1,9 +1,9 @@
 -- Every call is lawful (proofs/Lawful): one clause for each. A call that only reads is a `reader`. Assumes nothing.
 use Prim.Native.Nat.{ℕ, _<_}
-use mathlib.Core.Path.{_≡_, refl}
-use mathlib.Core.Bool.{Bool, true, false, cond}
+use mathlib.Core.Path.{_≡_, refl, ap, _∙_}
+use mathlib.Core.Bool.{Bool, true, false, cond, _&&_}
 use mathlib.Core.Option.{Option, none, some}
-use lib.Dec.{leb}
+use lib.Dec.{leb, eqb}
 use lib.ListN.{getD, set}
 use lib.Seq.{getD-set-other}
 use borrow.Author.Tests.{eqb-false, leb-false}
@@ -26,7 +26,8 @@ use Rattle.model.specs.Refusals.{in-order}
 use Rattle.model.specs.Once.{asks-about, takes, remakes}
 use Rattle.model.specs.EqualPart.{kind-stays}
 use Rattle.model.specs.RoundTrip.{reaches}
-use Rattle.model.proofs.Choice.{true-false}
+use Rattle.model.specs.Floors.{forgets}
+use Rattle.model.proofs.Choice.{and-false, true-false}
 use Rattle.model.proofs.Struck.{struck-sweep}
 use Rattle.model.proofs.RingsKept.{sweep-ok, begin-ok}
 use Rattle.model.proofs.BookKept.{expired-ok, closed-ok, limited-ok}
@@ -35,7 +36,9 @@ use Rattle.model.proofs.SharesKept.{opened-bounded, expire-bounded, clo
 use Rattle.model.proofs.SoundnessKept.{book-in, with-book-ok, there, register-in, with-register-ok, limits-in, asked-ok, restored-ok, resumed-ok, opened-sound}
 use Rattle.model.proofs.Guarded.{put-here, asked-keeps, asked-silent, restored-keeps, resumed-keeps, asked-strikes}
 use Rattle.model.proofs.EqualPart.{limits-same, asked-bounded, restored-bounded, resumed-bounded}
-use Rattle.model.proofs.Lawful.{none-some, Lawful, unasked, calm, reader}
+use Rattle.model.proofs.Misreadings.{same}
+use Rattle.model.proofs.FloorLaws.{put-stands, sweep-stands, begin-stands, asked-stands, restored-stands}
+use Rattle.model.proofs.Lawful.{none-some, Lawful, unasked, calm, on-book, reader}
 
 -- ---- an answer of its own is no refusal
 abbrev Through : Answer → Type 0
@@ -99,12 +102,16 @@ module _ (s : Settings) (q r : ℕ) (other : q ≡ r → ⊥) where
   resumed-aside t p none = refl
   resumed-aside t p (some d) = elsewhere _ t
 
+-- what forgets a floor on register r leaves those of the others
+forgets-other : (q r : ℕ) → (eqb q r && true) ≡ false → q ≡ r → ⊥
+forgets-other q r e = and-false (eqb q r) true e (λ n. eqb-false q r n) (λ n. true-false refl n)
+
 low : (s : Settings) (r : ℕ) → leb (s .registers) r ≡ false → r < s .registers
 low s r e = leb-false (s .registers) r e
 
 -- ---- every deed
 deed-lawful : (r : ℕ) (d : Deed) → Lawful (meaning (On r d))
-unfolding meaning deed-fits deed-refusals done-on beyond kind-stays reaches remakes asks-about takes unasked went-through opens in-order
+unfolding meaning deed-fits deed-refusals done-on beyond kind-stays reaches forgets remakes asks-about takes unasked went-through opens in-order
 deed-lawful r (Ticket m a) = record {
   through = λ s t. asked-through s r m (ask-of a) t;
   in-order = λ s t. refl;
@@ -117,6 +124,8 @@ deed-lawful r (Ticket m a) = record {
     silent = λ e n. asked-silent s k pos fit r x (low s r h) ok struck m a e n;
   };
   strikes = λ s k x h ok e n. asked-strikes s k r x (low s r h) ok m a e n;
+  reads = λ e. no (cc);
+  floors = λ s t q e f h. asked-stands s r t q f h m (ask-of a);
 }
 deed-lawful r (ContainsHash fp) =
     reader refl (λ s t. refl) (λ s t. yes-no-through (any-class (holds-any (as-read fp)) (register-at r t .rings))) (λ s t. refl)
@@ -130,6 +139,7 @@ deed-lawful r (Begin number) = calm (record {
   aside = λ s q t e. elsewhere s q r (eqb-false q r e) _ t;
   keeps = λ s k x pos fit h ok struck e.
       put-here s k pos r x (there s r x ok (low s r h)) struck _ (λ b fp n z g. begin-keeps b fp n number (register-at r x) g);
+  floors = λ s t q e f h. put-stands r _ t q f (λ k. begin-stands number (register-at r t) f k) h;
 })
 deed-lawful r (Sweep ms) = calm (record {
   unasked = refl;
@@ -141,6 +151,7 @@ deed-lawful r (Sweep ms) = calm (record {
   aside = λ s q t e. elsewhere s q r (eqb-false q r e) _ t;
   keeps = λ s k x pos fit h ok struck e.
       put-here s k pos r x (there s r x ok (low s r h)) struck _ (λ b fp n z g. struck-sweep b fp n (usable-at s r) ms (register-at r x) g);
+  floors = λ s t q e f h. put-stands r _ t q f (λ k. sweep-stands (usable-at s r) ms (register-at r t) f k) h;
 })
 deed-lawful r (DumpTo out) = reader refl (λ s t. refl) (λ s t. refl) (λ s t. refl)
 deed-lawful r (Restore bytes) = calm (record {
@@ -151,6 +162,7 @@ deed-lawful r (Restore bytes) = calm (record {
   bounded = λ s t e h. restored-bounded s r t (read-dump bytes) h;
   aside = λ s q t e. restored-aside s q r (eqb-false q r e) t (read-dump bytes);
   keeps = λ s k x pos fit h ok struck e. restored-keeps s k pos fit r x (low s r h) ok struck (read-dump bytes) e;
+  floors = λ s t q e f h. restored-stands s r t q f h (read-dump bytes);
 })
 deed-lawful r (Resume bytes flag floor) = calm (record {
   unasked = refl;
@@ -160,6 +172,8 @@ deed-lawful r (Resume bytes flag floor) = calm (record {
   bounded = λ s t e h. resumed-bounded s r t (proven-of flag floor) (read-dump bytes) h;
   aside = λ s q t e. resumed-aside s q r (eqb-false q r e) t (proven-of flag floor) (read-dump bytes);
   keeps = λ s k x pos fit h ok struck e. resumed-keeps s k pos fit r x (low s r h) ok struck (proven-of flag floor) (read-dump bytes) e;
+  floors = λ s t q e f h.
+      same f _ (ap (λ (x : Register). x .floor) (resumed-aside s q r (forgets-other q r e) t (proven-of flag floor) (read-dump bytes)) ∙ h);
 })
 deed-lawful r Floor = reader refl (λ s t. refl) (λ s t. floor-through (register-at r t .floor)) (λ s t. refl)
 deed-lawful r Pending = reader refl (λ s t. refl) (λ s t. yes-no-through (register-at r t .pending)) (λ s t. refl)
@@ -167,7 +181,7 @@ deed-lawful r SweptBucket = reader refl (λ s t. refl) (λ s t. refl) (λ s t. r
 
 -- ---- every call
 pub lawful : (call : Call) → Lawful (meaning call)
-unfolding meaning beyond kind-stays reaches remakes asks-about takes unasked went-through opens opened class-totals codes-fit in-order
+unfolding meaning beyond kind-stays reaches forgets remakes asks-about takes unasked went-through opens opened class-totals codes-fit in-order
 lawful (Open limits starts) = record {
   through = λ s t. refl;
   in-order = λ s t. refl;
@@ -177,35 +191,34 @@ lawful (Open limits starts) = record {
   aside = λ s q t e. no (cc);
   guards = λ s k x pos fit h ok struck. record { keeps = λ e. true-false refl e; silent = λ e n. none-some e };
   strikes = λ s k x h ok e n. absurd (none-some e);
+  reads = λ e. no (cc);
+  floors = λ s t q e. true-false refl e;
 }
 lawful (On r d) = deed-lawful r d
-lawful (Expire ms) = calm (record {
+lawful (Expire ms) = on-book (record {
   unasked = refl;
   through = λ s t. refl;
   in-order = λ s t. refl;
   sound = λ s t fit codes h ok. with-book-ok s _ t (expired-ok (s .shares) (least-published s 0 (t .registers) ms) (t .book) (book-in s t ok)) ok;
   bounded = λ s t e h. expire-bounded (s .shares) (least-published s 0 (t .registers) ms) (t .book) h;
-  aside = λ s q t e. refl;
-  keeps = λ s k x pos fit h ok struck e. struck;
+  stays = λ s t. refl;
 })
-lawful (SetLimits limits) = calm (record {
+lawful (SetLimits limits) = on-book (record {
   unasked = refl;
   through = λ s t. refl;
   in-order = λ s t. refl;
   sound = λ s t fit codes h ok.
       with-book-ok s _ t (limited-ok (s .shares) (limits-of limits) (t .book) (limits-in s limits codes) (book-in s t ok)) ok;
   bounded = λ s t e h. limits-bounded (s .shares) (limits-of limits) (t .book) (limits-same (limits-of limits) (t .book .limits) e) h;
-  aside = λ s q t e. refl;
-  keeps = λ s k x pos fit h ok struck e. struck;
+  stays = λ s t. refl;
 })
-lawful Close = calm (record {
+lawful Close = on-book (record {
   unasked = refl;
   through = λ s t. refl;
   in-order = λ s t. refl;
   sound = λ s t fit codes h ok. with-book-ok s _ t (closed-ok (s .shares) (t .book) (book-in s t ok)) ok;
   bounded = λ s t e h. closed-bounded (s .shares) (t .book) h;
-  aside = λ s q t e. refl;
-  keeps = λ s k x pos fit h ok struck e. struck;
+  stays = λ s t. refl;
 })
 lawful (HeldBy kind number) = reader refl (λ s t. refl) (λ s t. refl) (λ s t. refl)
 lawful (ClassTotals c) = reader refl (λ s t. refl) (λ s t. refl) (λ s t. refl)

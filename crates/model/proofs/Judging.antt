@@ -37,7 +37,7 @@ in-holds : (b fp t : ℕ) (ring : Ring) → In b fp t ring → holds b fp ring �
 unfolding holds
 in-holds b fp t ring h = cc (eq-eqb (generation-at ring b .bucket) b (h .of-bucket), h .holds-it)
 
-any-in : (f : Ring → Bool) (c : Class) (e : Each Ring) → f (pick c e) ≡ true → any-class f e ≡ true
+pub any-in : (f : Ring → Bool) (c : Class) (e : Each Ring) → f (pick c e) ≡ true → any-class f e ≡ true
 any-in f Feeders e p = cc
 any-in f Peers e p = or-right (f (e .of-feeders)) (f (e .of-peers) || f (e .of-own)) (or-left (f (e .of-peers)) (f (e .of-own)) p)
 any-in f Own e p = or-right (f (e .of-feeders)) (f (e .of-peers) || f (e .of-own)) (or-right (f (e .of-peers)) (f (e .of-own)) p)

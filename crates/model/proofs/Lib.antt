@@ -12,6 +12,7 @@ pub mod Refusals
 pub mod Worked
 pub mod Misreadings
 pub mod Choice
+pub mod FloorLaws
 pub mod Struck
 pub mod Bounds
 pub mod RingsKept
@@ -47,3 +48,12 @@ pub mod EqualPartCases
 pub mod RoundTripCases
 pub mod Untouched
 pub mod EqualPartAmong
+pub mod Unaltered
+pub mod Floors
+pub mod ContainsHash
+pub mod AheadOnly
+pub mod Windows
+pub mod Seconds
+pub mod Expiry
+pub mod FailureRaises
+pub mod NotVacuousToo

@@ -30,10 +30,10 @@ unfolding verdict
 held-is-duplicate u reg a h = rw h
 
 -- ---- the floor stands
-same : (f : ℕ) (floor : Option ℕ) → floor ≡ some f → NoLower f floor
+pub same : (f : ℕ) (floor : Option ℕ) → floor ≡ some f → NoLower f floor
 same f floor e = record { level = f; there = e; no-lower = omega arith }
 
-raised : (f n : ℕ) (floor : Option ℕ) → NoLower f floor → NoLower f (raise floor n)
+pub raised : (f n : ℕ) (floor : Option ℕ) → NoLower f floor → NoLower f (raise floor n)
 unfolding raise
 raised f n floor l = rw (l .there) (record { level = max (l .level) n; there = refl; no-lower = let k = l .no-lower in omega arith })
 

@@ -40,7 +40,7 @@ module _ (s : Settings) (r : ℕ) (a : Asking) (x : State) where
       left-so _ (j .register) _ (rest-leaves (usable-at s r) (s .shares) (ask-of a) (x .book) (j .register) (j .says) (λ e. n (ap Said e)))
 
 -- ---- what is refused does not go by the manner
-same-refusal : (st ws : List ℕ) (r : ℕ) (a : Asking) (m n : Manner) → refused st ws (On r (Ticket m a)) ≡ refused st ws (On r (Ticket n a))
+pub same-refusal : (st ws : List ℕ) (r : ℕ) (a : Asking) (m n : Manner) → refused st ws (On r (Ticket m a)) ≡ refused st ws (On r (Ticket n a))
 unfolding refused first-met unfit codes-fit deed-fits unsound is-open no-such-register own-refusals deed-refusals
 same-refusal st ws r a m n = refl
 

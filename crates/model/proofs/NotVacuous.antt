@@ -44,23 +44,23 @@ unfolding compute-sound has-place distinct heading-sound front-sound went-throug
 compute-all = 0
 
 -- ---- one register: no window, buckets of 2 ms, two positions, four slots; two places of two pairs for each class
-abbrev settings : List ℕ
+abbrev pub settings : List ℕ
 settings = 1 ∷ 2 ∷ 2 ∷ 0 ∷ 0 ∷ 0 ∷ 0 ∷ 0 ∷ 0 ∷ 2 ∷ 4 ∷ replicate 18 0
 
-abbrev words : List ℕ
+abbrev pub words : List ℕ
 words = replicate (words-needed (settings-of settings)) 0
 
-abbrev given : Call → Given
+abbrev pub given : Call → Given
 given c = record { settings = settings; call = c }
 
-abbrev open-at : ℕ → Call
+abbrev pub open-at : ℕ → Call
 open-at limit = Open (replicate 5 limit) (replicate 8 0)
 
-abbrev opened-words : List ℕ
+abbrev pub opened-words : List ℕ
 opened-words = left-by words (given (open-at 4))
 
 -- a Feeder's ticket, its stamp equal to the reading
-abbrev ask : Manner → ℕ → ℕ → ℕ → Call
+abbrev pub ask : Manner → ℕ → ℕ → ℕ → Call
 ask m id fp ms = On 0 (Ticket m (record { fp = fp; stamp = ms; ms = ms; flag = 1; kind = 0; number = id }))
 
 -- ---- soundness: settings that fit, a call that is admitted, a well-formed state; words that are vetted, a call that goes through
@@ -107,7 +107,7 @@ unfolding compute-all
 new-again = refl
 
 -- a restore that comes out Whole does not: beside fingerprint 8, which it brings, 7 stays a duplicate
-abbrev brings : List ℕ → Call
+abbrev pub brings : List ℕ → Call
 brings dump = On 0 (Restore (flat word-bytes dump))
 
 abbrev one-more : Call
@@ -121,7 +121,7 @@ held-through-a-restore = (refl, refl)
 
 -- and one that comes out Partly does: three fingerprints find no room beside 7, their bucket is dropped, and the floor rises to the
 -- dump's newest stamp, 5, alone
-abbrev three-more : Call
+abbrev pub three-more : Call
 three-more = brings (0 ∷ 1 ∷ 3 ∷ 5 ∷ 3 ∷ 8 ∷ 9 ∷ 10 ∷ 0 ∷ 0 ∷ [])
 
 pub new-after-partly : moments words (given (open-at 4) ∷ given (ask taken 1 7 6) ∷ given three-more ∷ given (ask taken 1 7 6) ∷ [])
@@ -130,7 +130,7 @@ unfolding compute-all
 new-after-partly = refl
 
 -- and so does a resume, which forgets the floor: 7 was swept, and the floor 6 made it Late
-abbrev nothing-proven : Call
+abbrev pub nothing-proven : Call
 nothing-proven = On 0 (Resume (flat word-bytes (0 ∷ 0 ∷ 0 ∷ 0 ∷ [])) 0 0)
 
 pub new-after-resume : moments words (given (open-at 4) ∷ given (ask taken 1 7 6) ∷ given (On 0 (Sweep 8)) ∷ given (ask judged 1 7 6) ∷ given nothing-proven ∷ given (ask taken 1 7 6) ∷ [])

@@ -380,4 +380,4 @@ module _ (b : Shares) (c : Class) (h : Held) (ok : class-form b c .Ok h) where
       (λ e. simp e (fewer-ok (h .places) t short (fewer-self (h .places))))
       (λ e. by-test (leb t (h .expired))
       (λ d. simp (e, d) ok)
-      (λ d. simp (e, d) (fewer-ok (later-places t (h .places)) t short (later-fewer c (b .pairs) t 0 (h .places) (ok .1 .0 .1)))))
+      (λ d. simp (e, d) (fewer-ok _ t short (later-fewer c (b .pairs) _ 0 (h .places) (ok .1 .0 .1)))))

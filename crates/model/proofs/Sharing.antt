@@ -144,7 +144,7 @@ module _ (b : Shares) where
       split-if (λ (x : Held). Shrunk (each-units (x .places)) (each-units (h .places))) (ltb (cap32 (t + 2)) (h .expired))
       (λ e. shrunk-same (each-units (h .places)))
       (λ e. split-if (λ (x : Held). Shrunk (each-units (x .places)) (each-units (h .places))) (leb t (h .expired))
-      (λ d. shrunk-same (each-units (h .places))) (λ d. expires t (h .places)))
+      (λ d. shrunk-same (each-units (h .places))) (λ d. expires _ (h .places)))
 
   -- ---- at most three parties: what keeps within its equal part keeps the class within twice its limit
   within-twice : (t : ℕ) (who : Deliverer) (ps : List Place) → Shared t (each-units ps) → holders-with who ps ≤ 3

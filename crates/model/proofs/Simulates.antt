@@ -28,7 +28,7 @@ unfolding after
 refused-words st ws call e = rw e
 
 -- ---- a refusal number of 0: no condition is met
-not-met : (b : Bool) (n m : ℕ) → cond b (suc n) m ≡ 0 → (b ≡ false) × (m ≡ 0)
+pub not-met : (b : Bool) (n m : ℕ) → cond b (suc n) m ≡ 0 → (b ≡ false) × (m ≡ 0)
 not-met true n m e = absurd (omega arith)
 not-met false n m e = (refl, e)
 

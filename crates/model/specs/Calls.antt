@@ -226,6 +226,8 @@ pub record Act : Type 0 where
   -- the output that it is lent, and the bytes that it writes there
   pub output : List ℕ
   pub writes : Register → List ℕ
+  -- it only reads: no word is altered
+  pub reads : Bool
   pub sort : Sort
 
 -- one that reads: it answers, and writes to its output alone
@@ -236,6 +238,7 @@ shows fits own output writes says = record {
   does = λ s r t. record { answer = says s r t; state = t };
   output = output;
   writes = writes;
+  reads = true;
   sort = Plain;
 }
 
@@ -244,7 +247,7 @@ looks says = shows true (λ reg. no-refusals) [] (λ reg. []) says
 
 -- one that alters the state
 abbrev pub alters : Bool → List Refusal → Sort → (Settings → ℕ → State → Step) → Act
-alters fits own sort does = record { fits = fits; own = λ reg. own; does = does; output = []; writes = λ reg. []; sort = sort }
+alters fits own sort does = record { fits = fits; own = λ reg. own; does = does; output = []; writes = λ reg. []; reads = false; sort = sort }
 
 unfoldable pub act : Deed → Act
 act (Ticket m a) =
@@ -282,6 +285,7 @@ pub record Meaning : Type 0 where
   pub does : Settings → State → Step
   pub output : List ℕ
   pub writes : State → List ℕ
+  pub reads : Bool
   pub kind : Kind
 
 -- one that reads
@@ -292,6 +296,7 @@ shows-all fits own output writes says = record {
   does = λ s t. record { answer = says s t; state = t };
   output = output;
   writes = writes;
+  reads = true;
   kind = Other;
 }
 
@@ -306,6 +311,7 @@ makes fits kind leaves = record {
   does = λ s t. record { answer = Done; state = leaves s t };
   output = [];
   writes = λ t. [];
+  reads = false;
   kind = kind;
 }
 
@@ -318,6 +324,7 @@ meaning (On r d) = record {
   does = λ s t. done-on s r d t;
   output = act d .output;
   writes = λ t. act d .writes (register-at r t);
+  reads = act d .reads;
   kind = OnOne r (act d .sort);
 }
 meaning (Expire ms) = makes (λ s. true) Other (λ s t. with-book (expire (least-published s 0 (t .registers) ms) (t .book)) t)
@@ -347,6 +354,10 @@ output-of call = meaning call .output
 unfoldable pub dumped-by : Call → State → List ℕ
 unfolding meaning act
 dumped-by call t = meaning call .writes t
+
+unfoldable pub only-reads : Call → Bool
+unfolding meaning act
+only-reads call = meaning call .reads
 
 unfoldable pub kind : Call → Kind
 unfolding meaning
@@ -423,5 +434,5 @@ output-after st ws call =
 
 -- the rules of this file, for a theorem that computes
 unfoldable pub compute-calls : ℕ
-unfolding start-all opened after-judged after-taken asked after-restored restored resumed least-published class-totals start-fits-at starts-fit limits-words-fit is-cut manner-sort opens beyond act deed-fits deed-refusals done-on meaning codes-fit own-refusals step output-of dumped-by kind is-open no-such-register settings-words-fit unfit too-short sound unsound first-met held-in refused reply after output-after
+unfolding start-all opened after-judged after-taken asked after-restored restored resumed least-published class-totals start-fits-at starts-fit limits-words-fit is-cut manner-sort opens beyond act deed-fits deed-refusals done-on meaning codes-fit own-refusals step output-of dumped-by only-reads kind is-open no-such-register settings-words-fit unfit too-short sound unsound first-met held-in refused reply after output-after
 compute-calls = 0

@@ -28,3 +28,14 @@ pub mod NotNew
 pub mod EqualPartCases
 pub mod RoundTripCases
 pub mod EqualPartAmong
+pub mod ReadersLeave
+pub mod UnjudgedLeaves
+pub mod AlreadyLeaves
+pub mod Floors
+pub mod ResumeProves
+pub mod ContainsHash
+pub mod AheadOnly
+pub mod Windows
+pub mod Seconds
+pub mod Expiry
+pub mod FailureRaises
