@@ -57,3 +57,4 @@ pub mod Seconds
 pub mod Expiry
 pub mod FailureRaises
 pub mod NotVacuousToo
+pub mod BringsBack

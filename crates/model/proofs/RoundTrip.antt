@@ -70,7 +70,7 @@ said-many st ws r out n e =
     (λ t. let q : Dumped (length (dump-bytes (register-at r (held-in (settings-of st) ws)))) ≡ Dumped n = rw t at e in (t, (cc)))
     (λ t. let q : Refused (refused st ws (On r (DumpTo out))) ≡ Dumped n = rw t at e in no (cc))
 
-wrote : (st ws : List ℕ) (r : ℕ) (out : List ℕ) (n : ℕ) → Words64 ws → reply st ws (On r (DumpTo out)) ≡ Dumped n → Written st ws r out n
+pub wrote : (st ws : List ℕ) (r : ℕ) (out : List ℕ) (n : ℕ) → Words64 ws → reply st ws (On r (DumpTo out)) ≡ Dumped n → Written st ws r out n
 unfolding output-after output-of dumped-by is-open no-such-register
 wrote st ws r out n small said =
     let call = On r (DumpTo out) in
@@ -166,7 +166,7 @@ view-vetted st ws t e fit kept =
 pub vetted-seen : (st ws : List ℕ) → Vetted st ws → view ws ≡ some (held-in (settings-of st) ws)
 vetted-seen st ws v = let fit = fit-settings st (v .fit) in view-sound (settings-of st) fit (brought-trimmed st fit) ws (v .long) (v .sound)
 
-vetted-view : (st ws : List ℕ) (t : State) → view ws ≡ some t → Vetted st ws → held-in (settings-of st) ws ≡ t
+pub vetted-view : (st ws : List ℕ) (t : State) → view ws ≡ some t → Vetted st ws → held-in (settings-of st) ws ≡ t
 vetted-view st ws t e v = let h : some (held-in (settings-of st) ws) ≡ some t = sym (vetted-seen st ws v) ∙ e in cc
 
 -- demand 2, last sentence

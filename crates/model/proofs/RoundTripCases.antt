@@ -27,10 +27,12 @@ use Rattle.model.specs.Soundness.{Vetted}
 use Rattle.model.specs.Calls.{compute-calls, On, Restore, register-at, held-in, reply, after}
 use Rattle.model.specs.View.{words-after}
 use Rattle.model.specs.EqualPartCases.{compute-words}
-use Rattle.model.specs.RoundTrip.{seconds-in, pairs-with, new-units, RoomFor, EnoughRoom, Words64, Source, written, Target, Returns}
-use Rattle.model.specs.RoundTripCases.{source-settings, source-words, output, dump-call, target-settings, target-words}
+use Rattle.model.specs.RoundTrip.{seconds-in, pairs-with, new-units, RoomFor, EnoughRoom, Words64, Source, written, Target, Returns, touches, none-touches}
+use Rattle.model.specs.RoundTripCases.{source-settings, source-words, output, dump-call, target-settings, target-opening, target-calls, target-words}
+use Rattle.model.specs.BringsBack.{ADump, NewlyOpened, BringsBack}
 use Rattle.model.proofs.Simulates.{vetted-kept}
 use Rattle.model.proofs.RoundTrip.{vetted-seen, round-trip}
+use Rattle.model.proofs.BringsBack.{dump-brings-back}
 
 -- all that words are tested, read and written by, and all rules
 unfoldable compute-all : ℕ
@@ -51,7 +53,7 @@ words-small : all-small source-words ≡ true
 unfolding compute-all all-small
 words-small = refl
 
-said : reply source-settings source-words dump-call ≡ Dumped 104
+pub said : reply source-settings source-words dump-call ≡ Dumped 104
 unfolding compute-all
 said = refl
 
@@ -62,7 +64,7 @@ source-vetted = record { fit = refl; long = lit≤ tt; sound = refl }
 abbrev held-there : State
 held-there = held-in (settings-of source-settings) source-words
 
-source : Source source-settings source-words held-there 0 output 104
+pub source : Source source-settings source-words held-there 0 output 104
 source = record { words = small-words source-words words-small; holds = vetted-seen source-settings source-words source-vetted; said = said }
 
 -- ---- the target
@@ -115,7 +117,46 @@ dump = written source-settings source-words 0 output 104
 pub comes-back : (more : List ℕ) → Returns from dump target-settings target-words 1 (dump ++ more)
 comes-back more = round-trip source-settings source-words held-there 0 output 104 source target-settings target-words held-here 1 target room more .1
 
--- and by computing, with nine bytes after it: 104 bytes read, floor 1,000, and each class holds in bucket 4 what it held, and nothing else
+-- ---- and by the whole sentence: the words are opened anew, and the calls after it are not on register 1
+abbrev a-dump : ADump
+a-dump = record {
+  settings = source-settings;
+  words = source-words;
+  register = 0;
+  output = output;
+  told = 104;
+  small = source .words;
+  said = said;
+}
+
+gone-through : went-through (reply target-settings (replicate 430 6) target-opening) ≡ true
+unfolding compute-all
+gone-through = refl
+
+abbrev newly-opened : NewlyOpened (usable-at (settings-of source-settings) 0)
+newly-opened = record {
+  settings = target-settings;
+  words = replicate 430 6;
+  limits = replicate 5 9;
+  starts = replicate 8 0;
+  register = 1;
+  through = gone-through;
+  there = lit≤ tt;
+  empty = refl;
+  same = refl;
+}
+
+not-touched : none-touches 1 target-calls ≡ true
+unfolding none-touches touches compute-all
+not-touched = refl
+
+pub whole-sentence : (more : List ℕ) → BringsBack a-dump target-settings target-words 1 more
+whole-sentence more =
+    let there = vetted-kept source-settings source-words source-vetted in
+    let here = vetted-kept target-settings target-words target-vetted in
+    dump-brings-back a-dump newly-opened target-calls not-touched (rw (there, here) room) more
+
+-- ---- and by computing, with nine bytes after it: 104 bytes read, floor 1,000, and each class holds in bucket 4 what it held, and nothing else
 abbrev trailing : List ℕ
 trailing = replicate 9 1
 

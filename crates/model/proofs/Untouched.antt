@@ -14,12 +14,14 @@ use Rattle.model.specs.Settings.{settings-of, usable-at}
 use Rattle.model.specs.Codes.{start-of, went-through}
 use Rattle.model.specs.Register.{Register, started}
 use Rattle.model.specs.Words.{State}
-use Rattle.model.specs.Calls.{Call, Open, Kind, Opens, OnOne, Sets, Other, opens, kind, no-register, register-at, start-all, opened, step, is-open, after}
+use Rattle.model.specs.Calls.{Call, Open, Kind, Opens, OnOne, Sets, Other, opens, kind, no-register, register-at, start-all, opened, step, is-open, settings-words-fit, held-in, reply, after}
 use Rattle.model.specs.View.{view, Given, answered, left-by, words-after}
+use Rattle.model.specs.Soundness.{Vetted}
 use Rattle.model.specs.EqualPart.{Since}
 use Rattle.model.specs.RoundTrip.{reaches, touches, none-touches, StaysUntouched}
-use Rattle.model.proofs.View.{view-sound}
 use Rattle.model.proofs.EveryCall.{lawful}
+use Rattle.model.proofs.Simulates.{entered, through-zero}
+use Rattle.model.proofs.RoundTrip.{vetted-view}
 use Rattle.model.proofs.EqualPartWords.{Tied, opening-ties, later-ties, refused-stays}
 
 -- ---- one call
@@ -54,23 +56,39 @@ opened-empty s limits starts q low e =
     k ∙ rw e refl
 
 -- ---- a list
-untouched-after : (q : ℕ) (reg : Register) (calls : List Given) (x : Since) (ws : List ℕ) (t : State) → Tied x ws → register-at q (x .state) ≡ reg
-    → none-touches q calls ≡ true → view (words-after ws calls) ≡ some t → register-at q t ≡ reg
+-- the words are vetted under the opening's settings, and hold the register as it was
+pub record Stayed (st : List ℕ) (q : ℕ) (reg : Register) (ws : List ℕ) : Type 0 where
+  pub vetted : Vetted st ws
+  pub same : register-at q (held-in (settings-of st) ws) ≡ reg
+
+untouched-after : (st : List ℕ) (q : ℕ) (reg : Register) (calls : List Given) (x : Since) (ws : List ℕ) → settings-words-fit st ≡ true
+    → x .settings ≡ settings-of st → Tied x ws → register-at q (x .state) ≡ reg → none-touches q calls ≡ true → Stayed st q reg (words-after ws calls)
 unfolding none-touches words-after
-untouched-after q reg [] x ws t tied same clear seen =
-    let h : some (x .state) ≡ some t = ap some (sym (tied .holds)) ∙ sym (view-sound (x .settings) (tied .fit) (tied .trimmed) ws (tied .long) (tied .sound)) ∙ seen in
-    let e : x .state ≡ t = cc in
-    subst (λ (y : State). register-at q y ≡ reg) e same
-untouched-after q reg (g ∷ gs) x ws t tied same clear seen =
+untouched-after st q reg [] x ws fit under tied same clear = record {
+  vetted = record { fit = fit; long = rw under at (tied .long); sound = rw under at (tied .sound) };
+  same = ap (register-at q) (subst (λ (s : Settings). held-in s ws ≡ x .state) under (tied .holds)) ∙ same;
+}
+untouched-after st q reg (g ∷ gs) x ws fit under tied same clear =
     let p = both-true (not (touches q (g .call))) (none-touches q gs) clear in
     let aside = not-true (touches q (g .call)) (p .0) in
     by-test (went-through (answered ws g))
-    (λ h. untouched-after q reg gs _ (left-by ws g) t (later-ties x ws g (not-open q (g .call) aside) h tied) (step-aside (x .settings) (g .call) q (x .state) aside ∙ same) (p .1) seen)
-    (λ h. untouched-after q reg gs x ws t tied same (p .1) (subst (λ (l : List ℕ). view (words-after l gs) ≡ some t) (refused-stays (g .settings) ws (g .call) h) seen))
+    (λ h. untouched-after st q reg gs _ (left-by ws g) fit under (later-ties x ws g (not-open q (g .call) aside) h tied) (step-aside (x .settings) (g .call) q (x .state) aside ∙ same) (p .1))
+    (λ h. subst (λ (l : List ℕ). Stayed st q reg (words-after l gs)) (sym (refused-stays (g .settings) ws (g .call) h)) (untouched-after st q reg gs x ws fit under tied same (p .1)))
+
+-- from an opening that went through on
+pub stays-as-started : (start st limits starts : List ℕ) (calls : List Given) (q : ℕ) → went-through (reply st start (Open limits starts)) ≡ true
+    → q < settings-of st .registers → getD starts (2 * q) 0 ≡ 0 → none-touches q calls ≡ true
+    → Stayed st q (started (usable-at (settings-of st) q) Empty) (words-after (after st start (Open limits starts)) calls)
+unfolding kind
+stays-as-started start st limits starts calls q through low e clear =
+    untouched-after st q (started (usable-at (settings-of st) q) Empty) calls
+    (record { settings = settings-of st; state = opened (settings-of st) limits starts; unchanged = true }) (after st start (Open limits starts))
+    (entered st start (Open limits starts) (through-zero st start (Open limits starts) through) .fit) refl
+    (opening-ties start st (Open limits starts) limits starts refl through) (opened-empty (settings-of st) limits starts q low e) clear
 
 pub stays-untouched : StaysUntouched
-unfolding kind
 stays-untouched start st limits starts calls q t through low e clear seen =
-    untouched-after q (started (usable-at (settings-of st) q) Empty) calls
-    (record { settings = settings-of st; state = opened (settings-of st) limits starts; unchanged = true }) (after st start (Open limits starts)) t
-    (opening-ties start st (Open limits starts) limits starts refl through) (opened-empty (settings-of st) limits starts q low e) clear seen
+    let now = words-after (after st start (Open limits starts)) calls in
+    let h = stays-as-started start st limits starts calls q through low e clear in
+    let same = vetted-view st now t seen (h .vetted) in
+    subst (λ (y : State). register-at q y ≡ started (usable-at (settings-of st) q) Empty) same (h .same)

@@ -39,3 +39,4 @@ pub mod Windows
 pub mod Seconds
 pub mod Expiry
 pub mod FailureRaises
+pub mod BringsBack

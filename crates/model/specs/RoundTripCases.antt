@@ -6,7 +6,7 @@ use lib.ListN.{replicate}
 use Rattle.runs.specs.Chunks.{flat}
 use Rattle.model.specs.Settings.{settings-of, words-needed}
 use Rattle.model.specs.Dump.{word-bytes}
-use Rattle.model.specs.Calls.{Ticket, taken, Sweep, DumpTo, Restore, Call, Open, On}
+use Rattle.model.specs.Calls.{Ticket, taken, Sweep, DumpTo, Restore, Call, Open, On, Close, after}
 use Rattle.model.specs.View.{Given, words-after}
 
 -- kind 0 is a Feeder, 1 a Peer; stamped at the reading
@@ -42,13 +42,15 @@ abbrev pub target-settings : List ℕ
 target-settings =
     2 ∷ 3 ∷ 4 ∷ 2 ∷ 1 ∷ 0 ∷ 0 ∷ 0 ∷ 0 ∷ 1_000 ∷ 4 ∷ 2_000 ∷ 0 ∷ 2_000 ∷ 0 ∷ 1_000 ∷ 8 ∷ replicate 12 0
 
--- register 0 restores one entry of class 0, and takes a Feeder's and a Peer's ticket
+abbrev pub target-opening : Call
+target-opening = Open (replicate 5 9) (replicate 8 0)
+
+-- after it register 0 restores one entry of class 0, and takes a Feeder's and a Peer's ticket; a call without settings is refused
 abbrev pub target-calls : List Given
 target-calls =
-    brings target-settings (Open (replicate 5 9) (replicate 8 0))
-    ∷ brings target-settings (On 0 (Restore (flat word-bytes (0 ∷ 1 ∷ 7 ∷ 6_500 ∷ 1 ∷ 31 ∷ 0 ∷ 0 ∷ []))))
-    ∷ brings target-settings (takes 0 0 1 41 8_000) ∷ brings target-settings (takes 0 1 7 42 8_000) ∷ []
+    brings target-settings (On 0 (Restore (flat word-bytes (0 ∷ 1 ∷ 7 ∷ 6_500 ∷ 1 ∷ 31 ∷ 0 ∷ 0 ∷ []))))
+    ∷ brings target-settings (takes 0 0 1 41 8_000) ∷ brings [] Close ∷ brings target-settings (takes 0 1 7 42 8_000) ∷ []
 
 -- two words more than it needs
 abbrev pub target-words : List ℕ
-target-words = words-after (replicate (words-needed (settings-of target-settings) + 2) 6) target-calls
+target-words = words-after (after target-settings (replicate (words-needed (settings-of target-settings) + 2) 6) target-opening) target-calls
