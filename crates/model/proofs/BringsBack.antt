@@ -6,17 +6,16 @@ use mathlib.Core.Option.{some}
 use lib.ListN.{length}
 use Rattle.model.specs.declared.Answer.the-variants.{Whole}
 use Rattle.model.specs.declared.Settings.{Settings}
-use Rattle.model.specs.declared.Usable.{Usable}
-use Rattle.model.specs.Settings.{settings-of, usable-at}
+use Rattle.model.specs.Settings.{settings-of}
 use Rattle.model.specs.Words.{State}
-use Rattle.model.specs.Calls.{Open, On, Restore, register-at, held-in, reply, after}
-use Rattle.model.specs.View.{kept-settings, view, Given}
+use Rattle.model.specs.Calls.{On, Restore, register-at, held-in, after}
+use Rattle.model.specs.View.{view, holding}
 use Rattle.model.specs.Soundness.{Vetted}
 use Rattle.model.specs.RoundTrip.{EnoughRoom, BroughtBack, Returns}
-use Rattle.model.specs.BringsBack.{holding, ADump, bytes-of, dumped, its-settings, NewlyOpened, words-then, BringsBack, DumpBringsBack}
+use Rattle.model.specs.BringsBack.{ADump, bytes-of, dumped, its-settings, words-then, BringsBack, DumpBringsBack}
 use Rattle.model.proofs.View.{view-read}
 use Rattle.model.proofs.Simulates.{vetted-kept}
-use Rattle.model.proofs.Untouched.{Stayed, stays-as-started}
+use Rattle.model.proofs.Untouched.{stays-as-started}
 use Rattle.model.proofs.RoundTrip.{wrote, vetted-seen, round-trip}
 
 -- ---- what a vetted run of words holds, it holds under its own settings

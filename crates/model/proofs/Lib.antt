@@ -58,3 +58,5 @@ pub mod Expiry
 pub mod FailureRaises
 pub mod NotVacuousToo
 pub mod BringsBack
+pub mod SameAnswers
+pub mod WorkedOnWords

@@ -22,7 +22,7 @@ use Rattle.model.specs.Judge.{compute-judge, verdict}
 use Rattle.model.specs.Dump.{compute-dump}
 use Rattle.model.specs.Codes.{compute-codes}
 use Rattle.model.specs.Calls.{compute-calls, step, no-register, least-published}
-use Rattle.model.specs.Worked.{serve, last}
+use Rattle.model.specs.SameAnswers.{served, state-after}
 use Rattle.model.specs.Misreadings.{HeldIsDuplicate, NoLower, FloorStands, dumped-first, dumped-again, SlotOrderMayDiffer, UnsweptKeeps}
 
 pub held-is-duplicate : HeldIsDuplicate
@@ -66,7 +66,7 @@ floor-stands u ms reg f e =
 
 -- ---- slot order may differ
 pub slot-order-may-differ : SlotOrderMayDiffer
-unfolding compute-numbers compute-settings compute-class compute-generation compute-book compute-register compute-judge compute-dump compute-codes compute-calls serve last dumped-first dumped-again
+unfolding compute-numbers compute-settings compute-class compute-generation compute-book compute-register compute-judge compute-dump compute-codes compute-calls served state-after dumped-first dumped-again
 slot-order-may-differ = record { first = refl; again = refl }
 
 -- ---- an unswept register keeps every entry

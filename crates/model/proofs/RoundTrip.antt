@@ -62,7 +62,7 @@ pub record Written (st ws : List ℕ) (r : ℕ) (out : List ℕ) (n : ℕ) : Typ
   pub ok : register-form (usable-at (settings-of st) r) .Ok (register-at r (held-in (settings-of st) ws))
   pub words : Words64 (register-form (usable-at (settings-of st) r) .enc (register-at r (held-in (settings-of st) ws)))
 
-said-many : (st ws : List ℕ) (r : ℕ) (out : List ℕ) (n : ℕ) → reply st ws (On r (DumpTo out)) ≡ Dumped n
+pub said-many : (st ws : List ℕ) (r : ℕ) (out : List ℕ) (n : ℕ) → reply st ws (On r (DumpTo out)) ≡ Dumped n
     → (eqb (refused st ws (On r (DumpTo out))) 0 ≡ true) × (length (dump-bytes (register-at r (held-in (settings-of st) ws))) ≡ n)
 unfolding reply step done-on
 said-many st ws r out n e =

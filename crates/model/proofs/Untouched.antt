@@ -4,7 +4,6 @@ use native.Mathlib.Omega.{arith}
 use mathlib.Core.Path.{_≡_, refl, ap, sym, _∙_, subst}
 use mathlib.Core.Bool.{true, false, not}
 use mathlib.Core.List.{List, [], _∷_}
-use mathlib.Core.Option.{some}
 use lib.ListN.{getD}
 use borrow.Author.Tests.{not-true}
 use Rattle.model.specs.declared.Settings.{Settings}
@@ -15,7 +14,7 @@ use Rattle.model.specs.Codes.{start-of, went-through}
 use Rattle.model.specs.Register.{Register, started}
 use Rattle.model.specs.Words.{State}
 use Rattle.model.specs.Calls.{Call, Open, Kind, Opens, OnOne, Sets, Other, opens, kind, no-register, register-at, start-all, opened, step, is-open, settings-words-fit, held-in, reply, after}
-use Rattle.model.specs.View.{view, Given, answered, left-by, words-after}
+use Rattle.model.specs.View.{Given, answered, left-by, words-after}
 use Rattle.model.specs.Soundness.{Vetted}
 use Rattle.model.specs.EqualPart.{Since}
 use Rattle.model.specs.RoundTrip.{reaches, touches, none-touches, StaysUntouched}

@@ -10,8 +10,9 @@ use Rattle.model.specs.Judge.{compute-judge}
 use Rattle.model.specs.Dump.{compute-dump}
 use Rattle.model.specs.Codes.{compute-codes}
 use Rattle.model.specs.Calls.{compute-calls}
-use Rattle.model.specs.Worked.{takes-by, serve, answers, last, cases, slots-holding, numbers, dumped, outcome, paper}
+use Rattle.model.specs.SameAnswers.{served, answers-from, state-after}
+use Rattle.model.specs.Worked.{takes-by, cases, strikes, slots-in, slots-holding, numbers, dumped, outcome, paper}
 
 pub worked : outcome ≡ paper
-unfolding compute-numbers compute-settings compute-class compute-generation compute-book compute-register compute-judge compute-dump compute-codes compute-calls takes-by serve answers last cases slots-holding numbers dumped outcome paper
+unfolding compute-numbers compute-settings compute-class compute-generation compute-book compute-register compute-judge compute-dump compute-codes compute-calls takes-by served answers-from state-after cases strikes slots-in slots-holding numbers dumped outcome paper
 worked = refl

@@ -17,15 +17,10 @@ use Rattle.model.specs.declared.Answer.the-variants.{Dumped, Whole}
 use Rattle.model.specs.declared.Usable.{Usable}
 use Rattle.model.specs.Settings.{settings-of, usable-at}
 use Rattle.model.specs.Register.{Register}
-use Rattle.model.specs.Words.{State}
-use Rattle.model.specs.Calls.{Open, On, DumpTo, Restore, register-at, held-in, reply, after}
-use Rattle.model.specs.View.{kept-settings, view, Given, words-after}
+use Rattle.model.specs.Calls.{Open, On, DumpTo, Restore, register-at, reply, after}
+use Rattle.model.specs.View.{kept-settings, view, holding, Given, words-after}
 use Rattle.model.specs.Codes.{went-through}
 use Rattle.model.specs.RoundTrip.{EnoughRoom, BroughtBack, Words64, written, none-touches}
-
--- what words hold under the settings that they keep: what `view` shows, where they are sound
-abbrev pub holding : List ℕ → State
-holding ws = held-in (kept-settings ws) ws
 
 -- ---- "a dump": of any words, under any settings, into any output; the call told so many bytes
 pub record ADump : Type 0 where

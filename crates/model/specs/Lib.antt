@@ -40,3 +40,5 @@ pub mod Seconds
 pub mod Expiry
 pub mod FailureRaises
 pub mod BringsBack
+pub mod SameAnswers
+pub mod WorkedOnWords

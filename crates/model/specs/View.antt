@@ -48,6 +48,10 @@ view ws =
     let s = kept-settings ws in
     cond (settings-fit s && (leb (words-needed s) (length ws) && sound s ws)) (some (held-in s ws)) none
 
+-- what words hold under the settings that they keep: what `view` shows, where they are sound
+abbrev pub holding : List ℕ → State
+holding ws = held-in (kept-settings ws) ws
+
 -- ---- a call with the settings that it brings, and lists of them
 pub record Given : Type 0 where
   pub settings : List ℕ

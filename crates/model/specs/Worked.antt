@@ -1,19 +1,18 @@
 -- "Tickets worked through": the cases marked P in one table, each number of the paper beside the calls that give it.
--- The theorem that the rules give them all is proofs/Worked.
+-- The theorem that the rules give them all is proofs/Worked; specs/WorkedOnWords says it of what the calls answer on words.
 use Prim.Native.Nat.{ℕ, zero, suc, _+_, _*_, _%_}
-use mathlib.Core.Bool.{cond}
 use mathlib.Core.List.{List, [], _∷_, _++_, map}
-use lib.Dec.{eqb}
 use lib.ListN.{length, replicate}
 use Rattle.model.specs.declared.Verdict.the-variants.{New, Duplicate, Late, Ahead, Full}
 use Rattle.model.specs.declared.Answer.{Answer}
-use Rattle.model.specs.declared.Answer.the-variants.{Refused, Done, Said, Yes, Dumped, NoFloor, FloorAt, Entries, Totals}
+use Rattle.model.specs.declared.Answer.the-variants.{Done, Said, Yes, Dumped, NoFloor, FloorAt, Entries, Totals}
 use Rattle.model.specs.Settings.{settings-of, usable-at, ring-of}
 use Rattle.model.specs.Register.{generation-at}
 use Rattle.model.specs.Judge.{bucket-of}
 use Rattle.model.specs.Dump.{dump-words}
 use Rattle.model.specs.Words.{State}
-use Rattle.model.specs.Calls.{Manner, judged, judged-batch, taken, Call, Open, On, Expire, HeldBy, ClassTotals, Ticket, ContainsHash, Sweep, DumpTo, Floor, Step, step, register-at, opened, refusal, unfit, refusals-of, first-met}
+use Rattle.model.specs.Calls.{Manner, judged, judged-batch, taken, Call, Open, On, Expire, HeldBy, ClassTotals, Ticket, ContainsHash, Sweep, DumpTo, Floor, register-at, opened}
+use Rattle.model.specs.SameAnswers.{answers-from, state-after}
 
 -- ---- "Origin 10,000 behind, copy 20,000, both 2,000 ahead; bucket 1,000; ring 24; S 8; ample limits; one register, opened Empty."
 -- (R, P, E and the place units come first; P, E and the Peer units are ours.)
@@ -43,23 +42,12 @@ unfoldable pub takes-by : ℕ → ℕ → ℕ → List Call
 takes-by id zero fp = []
 takes-by id (suc n) fp = ask taken 0 id 100_000 fp (90_000 + 1_000 * (fp % 12)) ∷ takes-by id n (suc fp)
 
--- ---- calls on a state, with the refusals that do not come from words
-unfoldable pub serve : Call → State → Step
-serve call t =
-    let n = first-met (refusal 1 (unfit settings call) ∷ refusals-of (settings-of settings) call t) in
-    cond (eqb n 0) (step (settings-of settings) call t) (record { answer = Refused n; state = t })
-
--- before its opening there is nothing to know of a state
+-- ---- calls on a state: before its opening there is nothing to know of it
 abbrev pub before : State
 before = opened (settings-of settings) [] []
 
-unfoldable pub answers : State → List Call → List Answer
-answers t [] = []
-answers t (c ∷ cs) = serve c t .answer ∷ answers (serve c t .state) cs
-
-unfoldable pub last : State → List Call → State
-last t [] = t
-last t (c ∷ cs) = last (serve c t .state) cs
+abbrev pub last : State → List Call → State
+last t calls = state-after settings t calls
 
 -- ---- the table
 pub record Case : Type 0 where
@@ -120,13 +108,15 @@ cases =
     ∷ []
 
 -- P10: "holding 1, 2, 3, 4, 6 gives 2, 4, 4, 8, 8 slots"
+unfoldable pub strikes : ℕ → List Call
+strikes zero = []
+strikes (suc n) = strikes n ++ (take-it (suc n) 100_000 ∷ [])
+
+unfoldable pub slots-in : State → ℕ
+slots-in t = length (generation-at (register-at 0 t .rings .of-feeders) 120 .slots)
+
 unfoldable pub slots-holding : ℕ → ℕ
-slots-holding n =
-    length (generation-at (register-at 0 (last before (open-ample ∷ strikes n)) .rings .of-feeders) 120 .slots)
-  where
-    strikes : ℕ → List Call
-    strikes zero = []
-    strikes (suc n) = strikes n ++ (take-it (suc n) 100_000 ∷ [])
+slots-holding n = slots-in (last before (open-ample ∷ strikes n))
 
 -- a number that the rules give, and the paper's
 pub record Number : Type 0 where
@@ -166,7 +156,7 @@ pub record Outcome : Type 0 where
   pub dump : List ℕ
 
 unfoldable pub outcome : Outcome
-outcome = record { answers = map (λ (c : Case). answers before (c .calls)) cases; numbers = map (λ (n : Number). n .is) numbers; dump = dumped }
+outcome = record { answers = map (λ (c : Case). answers-from settings before (c .calls)) cases; numbers = map (λ (n : Number). n .is) numbers; dump = dumped }
 
 unfoldable pub paper : Outcome
 paper = record { answers = map (λ (c : Case). c .gives) cases; numbers = map (λ (n : Number). n .paper) numbers; dump = dumped-paper }
