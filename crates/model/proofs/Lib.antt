@@ -60,3 +60,4 @@ pub mod NotVacuousToo
 pub mod BringsBack
 pub mod SameAnswers
 pub mod WorkedOnWords
+pub mod ToldApart

@@ -42,3 +42,4 @@ pub mod FailureRaises
 pub mod BringsBack
 pub mod SameAnswers
 pub mod WorkedOnWords
+pub mod ToldApart
