@@ -1,1 +1,4 @@
 pub mod Out
+pub mod ZeroIsNew
+pub mod Readers
+pub mod OnceInNumbers
