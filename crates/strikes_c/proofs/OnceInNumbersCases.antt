@@ -1,5 +1,5 @@
--- The conditions of OnceInNumbers are met (specs/OnceInNumbers), by computing: a ticket is taken. Then a take without settings is refused, and its
--- out number keeps the 0 that it held; a restore comes out Whole; the floor is read. Then the ticket is a Duplicate.
+-- The conditions of OnceInNumbers are met (specs/OnceInNumbers), by computing. A ticket is taken. Then a take without settings is refused,
+-- and its out number keeps the 0 that it held; a restore comes out Whole; the floor is read. Then the ticket is a Duplicate.
 use Prim.Native.Nat.{ℕ}
 use mathlib.Core.Path.{_≡_, refl}
 use mathlib.Core.Bool.{false}

@@ -10,7 +10,7 @@ use Rattle.runs.proofs.Cases.{by-test, no}
 use Rattle.model.specs.declared.Settings.{Settings}
 use Rattle.model.specs.Settings.{settings-of, words-needed}
 use Rattle.model.specs.Words.{State, state-form}
-use Rattle.model.specs.Calls.{Deed, Ticket, ContainsHash, Begin, Sweep, DumpTo, Restore, Resume, Floor, Pending, SweptBucket, Call, Open, On, Expire, SetLimits, Close, HeldBy, ClassTotals, kind, done-on, step, is-open, held-in, refused, after}
+use Rattle.model.specs.Calls.{Deed, Ticket, ContainsHash, Begin, Sweep, DumpTo, Restore, Resume, Floor, Pending, SweptBucket, Call, Open, On, Expire, SetLimits, Close, HeldBy, ClassTotals, done-on, step, is-open, held-in, refused, after}
 use Rattle.model.proofs.View.{sound-holds}
 use Rattle.model.proofs.Simulates.{refused-words, entered, fit-settings, after-is}
 use Rattle.strikes_c.specs.Readers.{deed-reads, only-reads, ReadersKept}

@@ -4,9 +4,10 @@ use Prim.Native.Nat.{ℕ}
 use mathlib.Core.Path.{_≡_}
 use mathlib.Core.Bool.{Bool, true, false}
 use mathlib.Core.List.{List}
-use Rattle.model.specs.Calls.{Deed, Ticket, ContainsHash, Begin, Sweep, DumpTo, Restore, Resume, Floor, Pending, SweptBucket, Call, Open, On, Expire, SetLimits, Close, HeldBy, ClassTotals, kind}
+use Rattle.model.specs.Calls.{Deed, Ticket, ContainsHash, Begin, Sweep, DumpTo, Restore, Resume, Floor, Pending, SweptBucket, Call, Open, On, Expire, SetLimits, Close, HeldBy, ClassTotals}
 use Rattle.strikes_c.specs.Out.{Returned, Read, Written}
 
+-- the calls that only read: whether a fingerprint is held, a dump, the floor, whether it is pending, the sweep, entries and totals
 unfoldable pub deed-reads : Deed → Bool
 deed-reads (Ticket m a) = false
 deed-reads (ContainsHash fp) = true

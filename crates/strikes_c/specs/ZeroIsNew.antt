@@ -10,7 +10,7 @@ use Rattle.model.specs.declared.Verdict.{Verdict}
 use Rattle.model.specs.declared.Verdict.the-variants.{New}
 use Rattle.model.specs.declared.Answer.the-variants.{Said}
 use Rattle.model.specs.Codes.{verdict-number}
-use Rattle.model.specs.Calls.{Manner, Call, kind, reply}
+use Rattle.model.specs.Calls.{Manner, Call, reply}
 use Rattle.strikes.specs.Calls.{asking}
 use Rattle.strikes_c.specs.Out.{Returned}
 
