@@ -56,7 +56,7 @@ pub mod Windows
 pub mod Seconds
 pub mod Expiry
 pub mod FailureRaises
-pub mod NotVacuousToo
+pub mod StatementCases
 pub mod BringsBack
 pub mod SameAnswers
 pub mod WorkedOnWords

@@ -1,6 +1,6 @@
 -- The conditions of the round trip are met, computed on words, settings, calls and bytes (specs/RoundTripCases); so what was dumped comes
 -- back.
-use Prim.Native.Nat.{ℕ, _<_}
+use Prim.Native.Nat.{ℕ, _+_, _<_}
 use native.Mathlib.Omega.{arith}
 use mathlib.Core.Path.{_≡_, refl}
 use mathlib.Core.Bool.{Bool, true, false, _&&_}
@@ -14,7 +14,7 @@ use Rattle.model.specs.declared.Start.the-variants.{Empty}
 use Rattle.model.specs.declared.Answer.the-variants.{Dumped, Whole}
 use Rattle.runs.proofs.Cases.{both-true}
 use Rattle.model.specs.Numbers.{compute-numbers, top64}
-use Rattle.model.specs.Settings.{compute-settings, settings-of, usable-at}
+use Rattle.model.specs.Settings.{compute-settings, settings-of, usable-at, words-needed}
 use Rattle.model.specs.Class.{compute-class, pick}
 use Rattle.model.specs.Generation.{compute-generation}
 use Rattle.model.specs.Book.{compute-book, Book, together, places-of}
@@ -129,14 +129,14 @@ a-dump = record {
   said = said;
 }
 
-gone-through : went-through (reply target-settings (replicate 430 6) target-opening) ≡ true
+gone-through : went-through (reply target-settings (replicate (words-needed (settings-of target-settings) + 2) 6) target-opening) ≡ true
 unfolding compute-all
 gone-through = refl
 
 abbrev newly-opened : NewlyOpened (usable-at (settings-of source-settings) 0)
 newly-opened = record {
   settings = target-settings;
-  words = replicate 430 6;
+  words = replicate (words-needed (settings-of target-settings) + 2) 6;
   limits = replicate 5 9;
   starts = replicate 8 0;
   register = 1;

@@ -10,7 +10,7 @@ use Rattle.model.specs.declared.Settings.{Settings}
 use Rattle.runs.proofs.Cases.{by-test}
 use Rattle.model.specs.Settings.{settings-of, words-needed}
 use Rattle.model.specs.Words.{State}
-use Rattle.model.specs.Calls.{Call, Open, step, refusal, unfit, too-short, sound, unsound, is-open, no-such-register, late, refusals-of, first-met, held-in, refused, reply, after}
+use Rattle.model.specs.Calls.{Call, Open, step, refusal, unfit, too-short, sound, unsound, is-open, no-such-register, own-refusals, refusals-of, first-met, held-in, refused, reply, after}
 use Rattle.model.specs.Soundness.{Vetted}
 use Rattle.model.specs.SameAnswers.{served, answers-from, state-after, answers-on, words-left, SameOn, SameAnswers, SameFromOpening}
 use Rattle.model.proofs.Choice.{or-right}
@@ -65,7 +65,7 @@ same-answers st ws v (c ∷ cs) =
 -- ---- an opening reads no word
 opens-any : (st limits starts : List ℕ) (t : State) → unfit st (Open limits starts) ≡ false
     → served st (Open limits starts) t ≡ step (settings-of st) (Open limits starts) t
-unfolding served first-met no-such-register late
+unfolding served first-met no-such-register own-refusals
 opens-any st limits starts t fit = rw fit refl
 
 fits : (st ws : List ℕ) (call : Call) → refused st ws call ≡ 0 → unfit st call ≡ false

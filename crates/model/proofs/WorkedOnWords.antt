@@ -14,7 +14,7 @@ use Rattle.model.specs.Settings.{compute-settings, settings-of, words-ne
 use Rattle.model.specs.Class.{compute-class}
 use Rattle.model.specs.Dump.{bytes-of, word-bytes, dump-words, dump-bytes}
 use Rattle.model.specs.Codes.{compute-codes, went-through}
-use Rattle.model.specs.Calls.{compute-calls, Call, Open, On, DumpTo, register-at, unfit, too-short, unsound, is-open, no-such-register, late, first-met, held-in, refused, reply, output-of, dumped-by, written-over, output-after}
+use Rattle.model.specs.Calls.{compute-calls, Call, Open, On, DumpTo, register-at, unfit, too-short, unsound, is-open, no-such-register, own-refusals, first-met, held-in, refused, reply, output-of, dumped-by, written-over, output-after}
 use Rattle.model.specs.View.{holding}
 use Rattle.model.specs.SameAnswers.{answers-from, answers-on, words-left, SameOn}
 use Rattle.model.specs.Worked.{settings, open-ample, open-twelve, before, last, Case, cases, P1, strikes, slots-in, slots-holding, numbers, dumped, dumped-paper, Outcome, outcome, paper}
@@ -29,7 +29,7 @@ use Rattle.model.proofs.Worked.{worked}
 -- ---- an opening that fits goes through, on words enough of any content
 opens-through : (st ws limits starts : List ℕ) → unfit st (Open limits starts) ≡ false → words-needed (settings-of st) ≤ length ws
     → went-through (reply st ws (Open limits starts)) ≡ true
-unfolding refused first-met too-short unsound is-open no-such-register late
+unfolding refused first-met too-short unsound is-open no-such-register own-refusals
 opens-through st ws limits starts fit long =
     let z : refused st ws (Open limits starts) ≡ 0 = rw (fit, le-ltb (length ws) (words-needed (settings-of st)) long) refl in
     ap went-through (reply-is st ws (Open limits starts) z) ∙ step-through (settings-of st) (Open limits starts) (held-in (settings-of st) ws)

@@ -12,7 +12,6 @@ use Rattle.model.specs.Calls.{Manner, judged, taken, Ticket, Restore, Floor, Ca
 use Rattle.model.specs.Once.{Strike, asks-about, takes}
 use Rattle.model.proofs.NotVacuous.{compute-all}
 use Rattle.strikes_c.specs.Out.{value-out, Read}
-use Rattle.strikes_c.specs.Readers.{deed-reads, only-reads}
 use Rattle.strikes_c.specs.OnceInNumbers.{Served, AllKept, SaysNew, sort-ends, kind-ends, ended-among}
 use Rattle.strikes_c.proofs.Readers.{readers-kept}
 
@@ -58,7 +57,7 @@ unfolding compute-all value-out
 floor-read = record { number = refl; values = refl }
 
 all-kept : AllKept start (first ∷ (between ++ (later ∷ [])))
-unfolding compute-all value-out only-reads deed-reads
+unfolding compute-all value-out
 all-kept = (
   record { number = refl; words = refl; values = refl },
   (

@@ -1,4 +1,4 @@
--- The conditions of further promises are met: an example of each, by computing, as in proofs/NotVacuous. Assumes nothing.
+-- The conditions of the statements about readers, floors and single rules are met: an example of each, by computing. Assumes nothing.
 use Prim.Native.Nat.{ℕ}
 use mathlib.Core.Path.{_≡_, refl}
 use mathlib.Core.Bool.{true, false}
@@ -14,8 +14,9 @@ use Rattle.model.specs.Dump.{Dumped, Restoring, word-bytes, hold-all, re
 use Rattle.model.specs.Calls.{Manner, judged, judged-batch, taken, taken-batch, Ticket, ContainsHash, Begin, Sweep, Resume, Floor, Pending, Call, Open, On, Expire, HeldBy, ClassTotals, only-reads, register-at, held-in}
 use Rattle.model.specs.View.{answered, left-by, words-after}
 use Rattle.model.specs.Once.{Answered, moments}
-use Rattle.model.specs.Worked.{before, open-ample, take-it, serve, answers}
-use Rattle.model.specs.Worked.{ask as ask-of-kind}
+use Rattle.model.specs.SameAnswers.{served, answers-from}
+use Rattle.model.specs.Worked.{before, open-ample, take-it}
+use Rattle.model.specs.Worked.{settings as paper-settings, ask as ask-of-kind}
 use Rattle.model.specs.Floors.{forgotten-among, compute-floors}
 use Rattle.model.specs.FailureRaises.{begun}
 use Rattle.model.proofs.NotVacuous.{compute-all, settings, words, given, open-at, opened-words, ask, three-more, nothing-proven}
@@ -97,20 +98,20 @@ unfolding compute-all
 second-fails = refl
 
 -- ---- the settings of the worked cases. Late and Ahead: behind the window both say Late, past its front judge says Late
-pub late-and-ahead : answers before
+pub late-and-ahead : answers-from paper-settings before
     (open-ample ∷ ask-of-kind judged 0 1 100_000 7 89_999 ∷ ask-of-kind judged-batch 0 1 100_000 7 89_999 ∷ ask-of-kind judged 0 1 100_000 7 102_001
     ∷ ask-of-kind judged-batch 0 1 100_000 7 102_001 ∷ [])
     ≡ Done ∷ Said Late ∷ Said Late ∷ Said Late ∷ Said Ahead ∷ []
-unfolding compute-all serve answers
+unfolding compute-all served answers-from
 late-and-ahead = refl
 
 -- a Feeder, a Peer, a Relay and a Restored: New within its window, and Late where no window reaches
-pub within-and-behind : answers before
+pub within-and-behind : answers-from paper-settings before
     (open-ample ∷ ask-of-kind judged 0 1 100_000 7 90_000 ∷ ask-of-kind judged 1 1 100_000 7 90_000 ∷ ask-of-kind judged 2 0 100_000 7 90_000
     ∷ ask-of-kind judged 3 0 100_000 7 90_000 ∷ ask-of-kind judged 0 1 100_000 7 79_999 ∷ ask-of-kind judged 1 1 100_000 7 79_999
     ∷ ask-of-kind judged 2 0 100_000 7 79_999 ∷ ask-of-kind judged 3 0 100_000 7 79_999 ∷ [])
     ≡ Done ∷ Said New ∷ Said New ∷ Said New ∷ Said New ∷ Said Late ∷ Said Late ∷ Said Late ∷ Said Late ∷ []
-unfolding compute-all serve answers
+unfolding compute-all served answers-from
 within-and-behind = refl
 
 -- bucket 120 of 1,000 ms ends in second 120
@@ -119,9 +120,9 @@ unfolding compute-all
 draw-ends = refl
 
 -- expire at 120 s: of Feeder 1's entries that of second 120 stays and that of second 119 goes; Feeder 2 had one of 119 alone, and goes
-pub expired-at-120 : answers before
+pub expired-at-120 : answers-from paper-settings before
     (open-ample ∷ take-it 7 100_000 ∷ take-it 7 99_000 ∷ ask-of-kind taken 0 2 100_000 8 99_000 ∷ ClassTotals 0 ∷ On 0 (Sweep 120_000) ∷ Expire 120_000
     ∷ HeldBy 0 1 ∷ HeldBy 0 2 ∷ ClassTotals 0 ∷ [])
     ≡ Done ∷ Said New ∷ Said New ∷ Said New ∷ Totals 3 2 5 0 ∷ Done ∷ Done ∷ Entries 1 ∷ Entries 0 ∷ Totals 1 1 2 120 ∷ []
-unfolding compute-all serve answers
+unfolding compute-all served answers-from
 expired-at-120 = refl
