@@ -24,6 +24,7 @@ use Rattle.model.specs.Calls.{ask-of, proven-of, asked, after-judged, af
 use Rattle.model.specs.Calls.{deed-fits, deed-refusals, done-on, meaning, codes-fit}
 use Rattle.model.specs.Refusals.{in-order}
 use Rattle.model.specs.Once.{asks-about, takes, remakes}
+use Rattle.model.specs.ToldApart.{Verdicts}
 use Rattle.model.specs.EqualPart.{kind-stays}
 use Rattle.model.specs.RoundTrip.{reaches}
 use Rattle.model.specs.Floors.{forgets}
@@ -80,6 +81,14 @@ asked-through s r judged-batch a t = refl
 asked-through s r taken a t = refl
 asked-through s r taken-batch a t = refl
 
+-- ---- a ticket gets a verdict
+asked-verdict : (s : Settings) (r : ℕ) (m : Manner) (a : Ask) (t : State) → Verdicts (asked s r m a t .answer)
+unfolding asked after-judged after-taken
+asked-verdict s r judged a t = record { verdict = _; said = refl }
+asked-verdict s r judged-batch a t = record { verdict = _; said = refl }
+asked-verdict s r taken a t = record { verdict = _; said = refl }
+asked-verdict s r taken-batch a t = record { verdict = _; said = refl }
+
 -- ---- the registers that a call is not on
 module _ (s : Settings) (q r : ℕ) (other : q ≡ r → ⊥) where
   elsewhere : (reg : Register) (t : State) → getD (set (t .registers) r reg) q no-register ≡ register-at q t
@@ -124,6 +133,7 @@ deed-lawful r (Ticket m a) = record {
     silent = λ e n. asked-silent s k pos fit r x (low s r h) ok struck m a e n;
   };
   strikes = λ s k x h ok e n. asked-strikes s k r x (low s r h) ok m a e n;
+  verdicts = λ s t k e. asked-verdict s r m (ask-of a) t;
   reads = λ e. no (cc);
   floors = λ s t q e f h. asked-stands s r t q f h m (ask-of a);
 }
@@ -191,6 +201,7 @@ lawful (Open limits starts) = record {
   aside = λ s q t e. no (cc);
   guards = λ s k x pos fit h ok struck. record { keeps = λ e. true-false refl e; silent = λ e n. none-some e };
   strikes = λ s k x h ok e n. absurd (none-some e);
+  verdicts = λ s t k e. absurd (none-some e);
   reads = λ e. no (cc);
   floors = λ s t q e. true-false refl e;
 }

@@ -19,6 +19,7 @@ use Rattle.model.specs.Codes.{went-through}
 use Rattle.model.specs.Calls.{Asks, Takes, Restores, Resumes, Plain, Kind, Opens, OnOne, Sets, Other, opens, beyond, Meaning, no-register, register-at, opened}
 use Rattle.model.specs.Refusals.{in-order, own-order}
 use Rattle.model.specs.Once.{Strike, asks-about, takes, remakes}
+use Rattle.model.specs.ToldApart.{Verdicts}
 use Rattle.model.specs.EqualPart.{kind-stays}
 use Rattle.model.specs.RoundTrip.{reaches}
 use Rattle.model.specs.Misreadings.{NoLower}
@@ -68,6 +69,8 @@ pub record Lawful (m : Meaning) : Type 0 where
       → state-form s .Ok x → StruckIn s k x → Good s k m x
   pub strikes : (s : Settings) (k : Strike) (x : State) → beyond s (m .kind) ≡ false → state-form s .Ok x → takes (m .kind) ≡ some k
       → m .does s x .answer ≡ Said New → (0 < k .print) × StruckIn s k (m .does s x .state)
+  -- a ticket gets a verdict
+  pub verdicts : (s : Settings) (t : State) (k : Strike) → asks-about (m .kind) ≡ some k → Verdicts (m .does s t .answer)
   -- one that only reads leaves the state
   pub reads : m .reads ≡ true → Reads m
   -- it lowers no floor, unless it opens, or resumes on that register
@@ -129,6 +132,7 @@ calm {m} c =
       guards = λ s k x pos fit there ok struck.
           record { keeps = c .keeps s k x pos fit there ok struck; silent = λ e n. none-some (sym (q .asks) ∙ e) };
       strikes = λ s k x there ok e n. absurd (none-some (sym (q .takes) ∙ e));
+      verdicts = λ s t k e. absurd (none-some (sym (q .asks) ∙ e));
       reads = λ e. true-false e (not-true (m .reads) (b .1));
       floors = c .floors;
     }
@@ -175,6 +179,7 @@ reader {m} unasked leaves through in-order =
         silent = λ e n. none-some (sym (q .asks) ∙ e);
       };
       strikes = λ s k x there ok e n. absurd (none-some (sym (q .takes) ∙ e));
+      verdicts = λ s t k e. absurd (none-some (sym (q .asks) ∙ e));
       reads = λ e. record { shut = q .shut; stays = leaves };
       floors = λ s t q e f h. same f _ (ap (λ (x : State). register-at q x .floor) (leaves s t) ∙ h);
     }
