@@ -1,6 +1,7 @@
 // The list on the standard input, line by line.
-use crate::serve;
-use crate::serve::Tally;
+use crate::answer;
+use crate::line;
+use crate::run;
 use libc::STDIN_FILENO;
 ghost use Prim.Native.Nat.{_≤_};
 ghost use lib.ListN.{length};
@@ -32,15 +33,6 @@ fn move_down(buffer: &mut [u8], at: usize, have: usize)
     }
 }
 
-fn least(a: usize, b: usize) -> usize
-    ensures { λ r. ⌜ (r ≤ a) × (r ≤ b) ⌝ }
-{
-    if a < b {
-        return a;
-    }
-    b
-}
-
 // Reads on. A line that fills the buffer is given up.
 fn refill(buffer: &mut [u8], w: Waiting) -> Waiting
     requires { ⌜ (w .at ≤ w .have) × (w .have ≤ length (now buffer)) ⌝ }
@@ -60,7 +52,7 @@ fn refill(buffer: &mut [u8], w: Waiting) -> Waiting
     move_down(buffer, at, have);
     let left = have - at;
     let got = read_some(&mut buffer[left..]);
-    let more = least(got, buffer.len() - left);
+    let more = line::least(got, buffer.len() - left);
     Waiting {
         at: 0,
         have: left + more,
@@ -70,43 +62,56 @@ fn refill(buffer: &mut [u8], w: Waiting) -> Waiting
     }
 }
 
-// Serves the line that the buffer holds from one place to another.
-fn served(
-    line: &[u8],
+// Serves a line, of which the start is missing where it was too long, and returns how many words are lent from then on.
+fn serve(
+    text: &[u8],
     long: bool,
     words: &mut [u64],
     kept: &mut [u64],
     next: &mut [u64],
-    args: &mut [u64],
-    out: &mut [u8],
-    tally: Tally,
-) -> Tally {
-    if long {
-        return serve::unread(serve::numbered(tally));
+    bytes: &mut [u8],
+    lent: u64,
+) -> u64 {
+    let mut args = [0u64; 64];
+    let read = line::read(text, &mut args, bytes);
+    if long | !read.ok {
+        answer::tell_unread();
+        return lent;
     }
-    serve::line(line, words, kept, next, args, out, tally)
+    let ran = run::run(
+        read.code,
+        &args,
+        read.filled,
+        words,
+        kept,
+        next,
+        bytes,
+        lent,
+    );
+    let said = ran.said;
+    answer::tell(said, bytes);
+    ran.lent
 }
 
 // Serves what the input ends with, if it does not end with a whole line.
-fn last_served(
-    line: &[u8],
+fn serve_last(
+    text: &[u8],
     long: bool,
     words: &mut [u64],
     kept: &mut [u64],
     next: &mut [u64],
-    args: &mut [u64],
-    out: &mut [u8],
-    tally: Tally,
-) -> Tally {
-    if (line.len() == 0) & !long {
-        return tally;
+    bytes: &mut [u8],
+    lent: u64,
+) -> u64 {
+    if (text.len() == 0) & !long {
+        return lent;
     }
-    served(line, long, words, kept, next, args, out, tally)
+    serve(text, long, words, kept, next, bytes, lent)
 }
 
 pub struct Turned {
     pub waiting: Waiting,
-    pub tally: Tally,
+    pub lent: u64,
 }
 
 // One turn: serves a line that is there, else reads on.
@@ -116,9 +121,8 @@ fn turn(
     words: &mut [u64],
     kept: &mut [u64],
     next: &mut [u64],
-    args: &mut [u64],
-    out: &mut [u8],
-    tally: Tally,
+    bytes: &mut [u8],
+    lent: u64,
 ) -> Turned
     requires { ⌜ (w .at ≤ w .have) × (w .have ≤ length (now buffer)) ⌝ }
     ensures { λ q. ⌜ (q .waiting .at ≤ q .waiting .have) × (q .waiting .have ≤ length (now (buffer .exit))) ⌝ }
@@ -128,16 +132,7 @@ fn turn(
     let end = bytes::scan::find(buffer, at, have, b'\n');
     if end < have {
         let after = end + 1;
-        let t = served(
-            &buffer[at..end],
-            w.long,
-            words,
-            kept,
-            next,
-            args,
-            out,
-            tally,
-        );
+        let l = serve(&buffer[at..end], w.long, words, kept, next, bytes, lent);
         return Turned {
             waiting: Waiting {
                 at: after,
@@ -146,20 +141,11 @@ fn turn(
                 long: false,
                 done: false,
             },
-            tally: t,
+            lent: l,
         };
     }
     if w.ended {
-        let t = last_served(
-            &buffer[at..have],
-            w.long,
-            words,
-            kept,
-            next,
-            args,
-            out,
-            tally,
-        );
+        let l = serve_last(&buffer[at..have], w.long, words, kept, next, bytes, lent);
         return Turned {
             waiting: Waiting {
                 at: 0,
@@ -168,13 +154,13 @@ fn turn(
                 long: false,
                 done: true,
             },
-            tally: t,
+            lent: l,
         };
     }
     let q = refill(buffer, w);
     Turned {
         waiting: q,
-        tally: tally,
+        lent: lent,
     }
 }
 
@@ -184,8 +170,7 @@ pub(crate) fn replay(
     words: &mut [u64],
     kept: &mut [u64],
     next: &mut [u64],
-    args: &mut [u64],
-    out: &mut [u8],
+    bytes: &mut [u8],
 ) {
     let mut w = Waiting {
         at: 0,
@@ -194,14 +179,13 @@ pub(crate) fn replay(
         long: false,
         done: false,
     };
-    let mut tally = serve::begin();
+    let mut lent = words.len() as u64;
     let mut turns = u64::MAX;
     while 0 < turns {
-        let t = turn(buffer, w, words, kept, next, args, out, tally);
+        let t = turn(buffer, w, words, kept, next, bytes, lent);
         w = t.waiting;
-        tally = t.tally;
+        lent = t.lent;
         if w.done {
-            serve::end(tally);
             return;
         }
         turns -= 1;

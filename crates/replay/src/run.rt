@@ -1,85 +1,58 @@
-// Runs a call that has been read.
-use calls_text::answer::Said;
-use calls_text::call;
-use calls_text::call::Act;
-use calls_text::call::Form;
-use calls_text::call::Look;
-use calls_text::call::Move;
-use calls_text::call::Name;
+// Runs the call of a line.
+use crate::answer::Said;
+use crate::codes;
+use crate::line;
 use model::Answer;
 ghost use Prim.Native.Nat.{_≤_, _<_};
 ghost use lib.ListN.{length};
 
-// What lies between two calls besides the words: whether an opening went through, and how many words are lent.
-pub struct Stage {
-    pub opened: bool,
+// What a line said, and how many words are lent from then on.
+pub struct Ran {
+    pub said: Said,
     pub lent: u64,
 }
 
-// What a call said, and what it left.
-pub struct Ran {
-    pub said: Said,
-    pub stage: Stage,
-}
-
-// `kept` are the settings of the last opening that went through, `next` those that the next call brings, `args` the numbers of the call,
-// and the first `filled` of `bytes` its bytes.
+// Runs a line. `a` are its arguments, and the first `filled` of `bytes` its bytes. `kept` are the settings of the last opening that went
+// through, and `next` those that the next call brings. All of them are 0 before the first opening, which every call refuses.
 pub(crate) fn run(
-    name: Name,
+    code: u64,
+    a: &[u64; 64],
     filled: usize,
     words: &mut [u64],
     kept: &mut [u64],
     next: &mut [u64],
-    args: &[u64],
     bytes: &mut [u8],
-    stage: Stage,
-) -> Ran {
-    match name {
-        Name::Open => open(words, kept, next, args, stage),
-        Name::Settings => bring(next, args, stage),
-        Name::Lend => lend(args, stage),
-        Name::Poke => poke(words, args, stage),
-        Name::Asks(form) => ask(form, words, kept, next, args, stage),
-        Name::Looks(look) => look_up(look, words, kept, next, args, stage),
-        Name::Acts(act) => act_on(act, words, kept, next, args, stage),
-        Name::Moves(m) => copy_bytes(m, filled, words, kept, next, args, bytes, stage),
-        Name::Unknown => apart(stage),
-    }
-}
-
-fn apart(stage: Stage) -> Ran {
-    Ran {
-        said: Said::Apart,
-        stage: stage,
-    }
-}
-
-fn told(answer: Answer, stage: Stage) -> Ran {
-    Ran {
-        said: Said::Told(answer),
-        stage: stage,
-    }
-}
-
-fn least(a: usize, b: usize) -> usize
-    ensures { λ r. ⌜ (r ≤ a) × (r ≤ b) ⌝ }
+    lent: u64,
+) -> Ran
+    requires { ⌜ filled ≤ length (now bytes) ⌝ }
 {
-    if a < b {
-        return a;
+    let n = line::most(lent, words.len());
+    match code {
+        codes::LEND => Ran {
+            said: Said::Told(Answer::Done),
+            lent: a[0],
+        },
+        codes::SETTINGS => stays(bring(next, a), lent),
+        codes::POKE => stays(poke(words, a[0], a[1]), lent),
+        codes::OPEN => stays(open(a, &mut words[0..n], kept, next), lent),
+        _ => {
+            let said = call(code, a, filled, &mut words[0..n], next, bytes);
+            copy_words(next, kept);
+            stays(said, lent)
+        }
     }
-    b
 }
 
-// As many as a number says of those that there are.
-fn most(n: u64, len: usize) -> usize
-    ensures { λ r. ⌜ r ≤ len ⌝ }
-{
-    least(n as usize, len)
+fn stays(said: Said, lent: u64) -> Ran {
+    Ran {
+        said: said,
+        lent: lent,
+    }
 }
 
 // Makes the first words of dst those of src.
 fn copy_words(dst: &mut [u64], src: &[u64]) {
-    let n = least(dst.len(), src.len());
+    let n = line::least(dst.len(), src.len());
     let mut i = 0;
     while i < n {
         dst[i] = src[i];
@@ -87,10 +60,11 @@ fn copy_words(dst: &mut [u64], src: &[u64]) {
     }
 }
 
-// Where the word of the settings at a place stands among a call's numbers: after R, P, E, FU and PU come 5 limits, and each register has
-// 6 numbers and a start of 2.
+// Returns the place of a word of the settings among the arguments: after R, P, E, FU and PU come 5 limits, and each register has 6
+// numbers and a start of 2.
 fn place_of(i: usize) -> usize
     requires { ⌜ i < 29 ⌝ }
+    ensures { λ r. ⌜ r < 64 ⌝ }
 {
     if i < 5 {
         return i;
@@ -99,279 +73,109 @@ fn place_of(i: usize) -> usize
     10 + at / 6 * 8 + at % 6
 }
 
-// The settings that a call's numbers name.
-fn load(settings: &mut [u64], args: &[u64]) {
-    let n = least(29, settings.len());
+// Makes the settings those that the arguments name.
+fn load(settings: &mut [u64], a: &[u64; 64]) {
+    let n = line::least(29, settings.len());
     let mut i = 0;
     while i < n {
-        settings[i] = call::word_at(args, place_of(i));
+        let place = place_of(i);
+        settings[i] = a[place];
         i += 1;
     }
 }
 
-// The five limits from a place on.
-fn limits_at(args: &[u64], i: usize) -> [u64; 5]
-    requires { ⌜ i < 10 ⌝ }
-{
-    [
-        call::word_at(args, i),
-        call::word_at(args, i + 1),
-        call::word_at(args, i + 2),
-        call::word_at(args, i + 3),
-        call::word_at(args, i + 4),
-    ]
+fn bring(next: &mut [u64], a: &[u64; 64]) -> Said {
+    load(next, a);
+    Said::Told(Answer::Done)
 }
 
-// Each register's start, a code and a number.
-fn starts_of(args: &[u64]) -> [u64; 8] {
-    [
-        call::word_at(args, 16),
-        call::word_at(args, 17),
-        call::word_at(args, 24),
-        call::word_at(args, 25),
-        call::word_at(args, 32),
-        call::word_at(args, 33),
-        call::word_at(args, 40),
-        call::word_at(args, 41),
-    ]
+// Alters a word; there is none past those that can be lent.
+fn poke(words: &mut [u64], place: u64, value: u64) -> Said {
+    let at = place as usize;
+    if at < words.len() {
+        words[at] = value;
+        return Said::Told(Answer::Done);
+    }
+    Said::Unread
 }
 
-fn went_through(answer: Answer) -> bool {
+fn open(a: &[u64; 64], words: &mut [u64], kept: &mut [u64], next: &mut [u64]) -> Said {
+    load(next, a);
+    let limits = [a[5], a[6], a[7], a[8], a[9]];
+    let starts = [a[16], a[17], a[24], a[25], a[32], a[33], a[40], a[41]];
+    let answer = strikes::open(next, &limits, &starts, words);
+    settle(answer, kept, next);
+    Said::Told(answer)
+}
+
+// Keeps the settings of an opening that went through; brings the kept ones again after any other.
+fn settle(answer: Answer, kept: &mut [u64], next: &mut [u64]) {
     if let Answer::Done = answer {
-        true
-    } else {
-        false
-    }
-}
-
-fn open(words: &mut [u64], kept: &mut [u64], next: &mut [u64], args: &[u64], stage: Stage) -> Ran {
-    load(next, args);
-    let limits = limits_at(args, 5);
-    let starts = starts_of(args);
-    let n = most(stage.lent, words.len());
-    let answer = strikes::open(next, &limits, &starts, &mut words[0..n]);
-    if went_through(answer) {
         copy_words(kept, next);
-        return Ran {
-            said: Said::Opened,
-            stage: Stage {
-                opened: true,
-                lent: stage.lent,
-            },
-        };
+    } else {
+        copy_words(next, kept);
     }
-    copy_words(next, kept);
-    told(answer, stage)
 }
 
-fn bring(next: &mut [u64], args: &[u64], stage: Stage) -> Ran {
-    load(next, args);
-    told(Answer::Done, stage)
-}
-
-fn lend(args: &[u64], stage: Stage) -> Ran {
-    told(
-        Answer::Done,
-        Stage {
-            opened: stage.opened,
-            lent: call::word_at(args, 0),
+// Calls what a code names: an arm for each call.
+fn call(
+    code: u64,
+    a: &[u64; 64],
+    filled: usize,
+    words: &mut [u64],
+    s: &[u64],
+    bytes: &mut [u8],
+) -> Said
+    requires { ⌜ filled ≤ length (now bytes) ⌝ }
+{
+    Said::Told(
+        match code {
+            codes::JUDGE => strikes::judge(s, words, a[0], a[1], a[2], a[3], a[4], a[5], a[6]),
+            codes::TAKE => strikes::take(s, words, a[0], a[1], a[2], a[3], a[4], a[5], a[6]),
+            codes::JUDGE_BATCH => strikes::judge_batch(
+                s,
+                words,
+                a[0],
+                a[1],
+                a[2],
+                a[3],
+                a[4],
+                a[5],
+                a[6],
+            ),
+            codes::TAKE_BATCH => strikes::take_batch(
+                s,
+                words,
+                a[0],
+                a[1],
+                a[2],
+                a[3],
+                a[4],
+                a[5],
+                a[6],
+            ),
+            codes::CONTAINS_HASH => strikes::contains_hash(s, words, a[0], a[1]),
+            codes::BEGIN => strikes::begin(s, words, a[0], a[1]),
+            codes::EXPIRE => strikes::expire(s, words, a[0]),
+            codes::SWEEP => strikes::sweep(s, words, a[0], a[1]),
+            codes::LIMITS => strikes::set_limits(s, words, &[a[0], a[1], a[2], a[3], a[4]]),
+            codes::CLOSE => strikes::close(s, words),
+            codes::DUMP => dump(s, words, a[0], a[1], a[2], bytes),
+            codes::RESTORE => strikes::restore(s, words, a[0], &bytes[0..filled]),
+            codes::RESUME => strikes::resume(s, words, a[0], &bytes[0..filled], a[1], a[2]),
+            codes::FLOOR => strikes::floor(s, words, a[0]),
+            codes::PENDING => strikes::pending(s, words, a[0]),
+            codes::SWEPT => strikes::swept(s, words, a[0]),
+            codes::HELD => strikes::held(s, words, a[0], a[1]),
+            codes::CLASS => strikes::class_totals(s, words, a[0]),
+            _ => return Said::Unread,
         },
     )
 }
 
-// Alters a word; there is none past those that can be lent.
-fn poke(words: &mut [u64], args: &[u64], stage: Stage) -> Ran {
-    let at = call::word_at(args, 0) as usize;
-    let value = call::word_at(args, 1);
-    if at < words.len() {
-        words[at] = value;
-        return told(Answer::Done, stage);
-    }
-    apart(stage)
-}
-
-fn ask(
-    form: Form,
-    words: &mut [u64],
-    kept: &[u64],
-    next: &mut [u64],
-    args: &[u64],
-    stage: Stage,
-) -> Ran {
-    if !stage.opened {
-        copy_words(next, kept);
-        return apart(stage);
-    }
-    let n = most(stage.lent, words.len());
-    let answer = ticket(form, next, &mut words[0..n], args);
-    copy_words(next, kept);
-    told(answer, stage)
-}
-
-fn ticket(form: Form, settings: &[u64], words: &mut [u64], args: &[u64]) -> Answer {
-    let register = call::word_at(args, 0);
-    let fp = call::word_at(args, 1);
-    let stamp = call::word_at(args, 2);
-    let reading = call::word_at(args, 3);
-    let flag = call::word_at(args, 4);
-    let kind = call::word_at(args, 5);
-    let number = call::word_at(args, 6);
-    match form {
-        Form::Judge => strikes::judge(
-            settings,
-            words,
-            register,
-            fp,
-            stamp,
-            reading,
-            flag,
-            kind,
-            number,
-        ),
-        Form::Take => strikes::take(
-            settings,
-            words,
-            register,
-            fp,
-            stamp,
-            reading,
-            flag,
-            kind,
-            number,
-        ),
-        Form::JudgeBatch => strikes::judge_batch(
-            settings,
-            words,
-            register,
-            fp,
-            stamp,
-            reading,
-            flag,
-            kind,
-            number,
-        ),
-        Form::TakeBatch => strikes::take_batch(
-            settings,
-            words,
-            register,
-            fp,
-            stamp,
-            reading,
-            flag,
-            kind,
-            number,
-        ),
-    }
-}
-
-fn look_up(
-    look: Look,
-    words: &[u64],
-    kept: &[u64],
-    next: &mut [u64],
-    args: &[u64],
-    stage: Stage,
-) -> Ran {
-    if !stage.opened {
-        copy_words(next, kept);
-        return apart(stage);
-    }
-    let n = most(stage.lent, words.len());
-    let answer = looked(look, next, &words[0..n], args);
-    copy_words(next, kept);
-    told(answer, stage)
-}
-
-fn looked(look: Look, settings: &[u64], words: &[u64], args: &[u64]) -> Answer {
-    let first = call::word_at(args, 0);
-    let second = call::word_at(args, 1);
-    match look {
-        Look::ContainsHash => strikes::contains_hash(settings, words, first, second),
-        Look::Floor => strikes::floor(settings, words, first),
-        Look::Pending => strikes::pending(settings, words, first),
-        Look::Swept => strikes::swept(settings, words, first),
-        Look::Held => strikes::held(settings, words, first, second),
-        Look::Class => strikes::class_totals(settings, words, first),
-    }
-}
-
-fn act_on(
-    act: Act,
-    words: &mut [u64],
-    kept: &[u64],
-    next: &mut [u64],
-    args: &[u64],
-    stage: Stage,
-) -> Ran {
-    if !stage.opened {
-        copy_words(next, kept);
-        return apart(stage);
-    }
-    let n = most(stage.lent, words.len());
-    let answer = acted(act, next, &mut words[0..n], args);
-    copy_words(next, kept);
-    told(answer, stage)
-}
-
-fn acted(act: Act, settings: &[u64], words: &mut [u64], args: &[u64]) -> Answer {
-    let first = call::word_at(args, 0);
-    let second = call::word_at(args, 1);
-    match act {
-        Act::Begin => strikes::begin(settings, words, first, second),
-        Act::Expire => strikes::expire(settings, words, first),
-        Act::Sweep => strikes::sweep(settings, words, first, second),
-        Act::Limits => set_limits(settings, words, args),
-        Act::Close => strikes::close(settings, words),
-    }
-}
-
-fn set_limits(settings: &[u64], words: &mut [u64], args: &[u64]) -> Answer {
-    let limits = limits_at(args, 0);
-    strikes::set_limits(settings, words, &limits)
-}
-
-fn copy_bytes(
-    m: Move,
-    filled: usize,
-    words: &mut [u64],
-    kept: &[u64],
-    next: &mut [u64],
-    args: &[u64],
-    bytes: &mut [u8],
-    stage: Stage,
-) -> Ran {
-    if !stage.opened {
-        copy_words(next, kept);
-        return apart(stage);
-    }
-    let n = most(stage.lent, words.len());
-    let answer = copied(m, filled, next, &mut words[0..n], args, bytes);
-    copy_words(next, kept);
-    told(answer, stage)
-}
-
-fn copied(
-    m: Move,
-    filled: usize,
-    settings: &[u64],
-    words: &mut [u64],
-    args: &[u64],
-    bytes: &mut [u8],
-) -> Answer {
-    let register = call::word_at(args, 0);
-    let given = call::word_at(args, 1);
-    let number = call::word_at(args, 2);
-    let n = least(filled, bytes.len());
-    match m {
-        Move::Dump => dump(settings, words, register, given, number, bytes),
-        Move::Restore => strikes::restore(settings, words, register, &bytes[0..n]),
-        Move::Resume => strikes::resume(settings, words, register, &bytes[0..n], given, number),
-    }
-}
-
 // A dump into an output of a given length, else of all bytes. An output longer than these takes no dump that these do not.
 fn dump(
-    settings: &[u64],
+    s: &[u64],
     words: &[u64],
     register: u64,
     given: u64,
@@ -379,8 +183,8 @@ fn dump(
     bytes: &mut [u8],
 ) -> Answer {
     if given == 0 {
-        return strikes::dump(settings, words, register, bytes);
+        return strikes::dump(s, words, register, bytes);
     }
-    let n = most(length, bytes.len());
-    strikes::dump(settings, words, register, &mut bytes[0..n])
+    let n = line::most(length, bytes.len());
+    strikes::dump(s, words, register, &mut bytes[0..n])
 }

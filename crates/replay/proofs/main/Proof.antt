@@ -19,10 +19,7 @@ slice-aggregate-replay-4 : tie.Need-slice-aggregate-replay-4
 slice-aggregate-replay-4 c = search needs
 
 slice-aggregate-replay-5 : tie.Need-slice-aggregate-replay-5
-slice-aggregate-replay-5 c = search needs
-
-slice-aggregate-replay-6 : tie.Need-slice-aggregate-replay-6
-slice-aggregate-replay-6 c = sym (length-replicate {A = ℕ} 800000 0)
+slice-aggregate-replay-5 c = sym (length-replicate {A = ℕ} 800000 0)
 
 replay-requires : tie.Need-replay-requires
 replay-requires c κs = search needs
@@ -39,6 +36,5 @@ main-spec =
     slice-aggregate-replay-3
     slice-aggregate-replay-4
     slice-aggregate-replay-5
-    slice-aggregate-replay-6
     replay-requires
     returns)

@@ -7,30 +7,23 @@ use Rattle.replay.proofs.input.replay.Statement.{statement}
 use Rattle.replay.proofs.input.replay.Tie as tie
 
 abbrev Inv-loop : tie.InvT-loop
-Inv-loop buffer₀ words₀ kept₀ next₀ args₀ out₀ w₀ tally₀ turns₀ buffer words kept next args out w tally turns =
+Inv-loop buffer₀ words₀ kept₀ next₀ bytes₀ w₀ lent₀ turns₀ buffer words kept next bytes w lent turns =
     (w .at ≤ w .have)
     × (w .have ≤ length buffer)
     × (length buffer ≡ length buffer₀)
     × (length words ≡ length words₀)
     × (length kept ≡ length kept₀)
     × (length next ≡ length next₀)
-    × (length args ≡ length args₀)
-    × (length out ≡ length out₀)
+    × (length bytes ≡ length bytes₀)
 
 abbrev μ-loop : tie.MeasureT-loop
-μ-loop buffer₀ words₀ kept₀ next₀ args₀ out₀ w₀ tally₀ turns₀ buffer words kept next args out w tally turns = turns
-
-begin-requires : tie.Need-begin-requires Inv-loop μ-loop
-begin-requires c κs = search needs
+μ-loop buffer₀ words₀ kept₀ next₀ bytes₀ w₀ lent₀ turns₀ buffer words kept next bytes w lent turns = turns
 
 loop-holds : tie.Need-loop-holds Inv-loop μ-loop
 loop-holds c = search needs
 
 turn-requires : tie.Need-turn-requires Inv-loop μ-loop
 turn-requires c κs = search needs
-
-end-requires : tie.Need-end-requires Inv-loop μ-loop
-end-requires c κs = search needs
 
 same-length : tie.Need-same-length Inv-loop μ-loop
 same-length c = search needs
@@ -47,9 +40,6 @@ same-length-4 c = search needs
 same-length-5 : tie.Need-same-length-5 Inv-loop μ-loop
 same-length-5 c = search needs
 
-same-length-6 : tie.Need-same-length-6 Inv-loop μ-loop
-same-length-6 c = search needs
-
 returns : tie.Need-returns Inv-loop μ-loop
 returns c = search needs
 
@@ -61,6 +51,9 @@ loop-less c = search needs
 
 loop-again : tie.Need-loop-again Inv-loop μ-loop
 loop-again c = search needs
+
+same-length-6 : tie.Need-same-length-6 Inv-loop μ-loop
+same-length-6 c = search needs
 
 same-length-7 : tie.Need-same-length-7 Inv-loop μ-loop
 same-length-7 c = search needs
@@ -74,12 +67,6 @@ same-length-9 c = search needs
 same-length-10 : tie.Need-same-length-10 Inv-loop μ-loop
 same-length-10 c = search needs
 
-same-length-11 : tie.Need-same-length-11 Inv-loop μ-loop
-same-length-11 c = search needs
-
-same-length-12 : tie.Need-same-length-12 Inv-loop μ-loop
-same-length-12 c = search needs
-
 returns-2 : tie.Need-returns-2 Inv-loop μ-loop
 returns-2 c = search needs
 
@@ -89,24 +76,20 @@ replay-spec =
     (tie.spec
     Inv-loop
     μ-loop
-    begin-requires
     loop-holds
     turn-requires
-    end-requires
     same-length
     same-length-2
     same-length-3
     same-length-4
     same-length-5
-    same-length-6
     returns
     sub-turns
     loop-less
     loop-again
+    same-length-6
     same-length-7
     same-length-8
     same-length-9
     same-length-10
-    same-length-11
-    same-length-12
     returns-2)

@@ -6,10 +6,10 @@ use Rattle.replay.proofs.run.load.Statement.{statement}
 use Rattle.replay.proofs.run.load.Tie as tie
 
 abbrev Inv-loop : tie.InvT-loop
-Inv-loop settings₀ args n i₀ settings i = (i ≤ n) × (length settings ≡ length settings₀)
+Inv-loop settings₀ a n i₀ settings i = (i ≤ n) × (n ≤ 29) × (n ≤ length settings₀) × (length settings ≡ length settings₀)
 
 abbrev μ-loop : tie.MeasureT-loop
-μ-loop settings₀ args n i₀ settings i = n - i
+μ-loop settings₀ a n i₀ settings i = n - i
 
 least-requires : tie.Need-least-requires Inv-loop μ-loop
 least-requires c κs = search needs
@@ -20,11 +20,14 @@ loop-holds c = search needs
 place-of-requires : tie.Need-place-of-requires Inv-loop μ-loop
 place-of-requires c κs = search needs
 
-word-at-requires : tie.Need-word-at-requires Inv-loop μ-loop
-word-at-requires c κs = search needs
-
 mul-settings : tie.Need-mul-settings Inv-loop μ-loop
 mul-settings c = search needs
+
+element-copy-out-settings : tie.Need-element-copy-out-settings Inv-loop μ-loop
+element-copy-out-settings c = search needs
+
+mul-settings-2 : tie.Need-mul-settings-2 Inv-loop μ-loop
+mul-settings-2 c = search needs
 
 slice-write-settings : tie.Need-slice-write-settings Inv-loop μ-loop
 slice-write-settings c = search needs
@@ -53,8 +56,9 @@ load-spec =
     least-requires
     loop-holds
     place-of-requires
-    word-at-requires
     mul-settings
+    element-copy-out-settings
+    mul-settings-2
     slice-write-settings
     add-i
     loop-less

@@ -1,5 +1,0 @@
--- What the contracts of this library cite.
-pub mod Scan
-pub mod Decimal
-pub mod Hex
-pub mod Call

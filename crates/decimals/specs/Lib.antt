@@ -1,0 +1,3 @@
+-- What the contracts of this library cite, and what is proved of it.
+pub mod Texts
+pub mod ReadBack

@@ -1,0 +1,54 @@
+use Prim.Native.Nat.{_-_, _≤_, _<_}
+use lib.ListN.{length}
+use borrow.Author.Needs.{needs}
+use Rattle.replay.proofs.answer.put_bytes.Statement.{statement}
+use Rattle.replay.proofs.answer.put_bytes.Tie as tie
+
+abbrev Inv-loop : tie.InvT-loop
+Inv-loop bytes text₀ from at₀ i₀ text at i = (i ≤ length bytes) × (0 < at) × (at ≤ 4096)
+
+abbrev μ-loop : tie.MeasureT-loop
+μ-loop bytes text₀ from at₀ i₀ text at i = length bytes - i
+
+loop-holds : tie.Need-loop-holds Inv-loop μ-loop
+loop-holds c = search needs
+
+make-room-requires : tie.Need-make-room-requires Inv-loop μ-loop
+make-room-requires c κs = search needs
+
+shared-slice-read-wide : tie.Need-shared-slice-read-wide Inv-loop μ-loop
+shared-slice-read-wide c = search needs
+
+wide-requires : tie.Need-wide-requires Inv-loop μ-loop
+wide-requires c κs = search needs
+
+put-requires : tie.Need-put-requires Inv-loop μ-loop
+put-requires c κs = search needs
+
+add-i : tie.Need-add-i Inv-loop μ-loop
+add-i c = search needs
+
+loop-less : tie.Need-loop-less Inv-loop μ-loop
+loop-less c = search needs
+
+loop-again : tie.Need-loop-again Inv-loop μ-loop
+loop-again c = search needs
+
+returns : tie.Need-returns Inv-loop μ-loop
+returns c = search needs
+
+pub put-bytes-spec : {M : Type 1} → statement M
+put-bytes-spec =
+    tie.close
+    (tie.spec
+    Inv-loop
+    μ-loop
+    loop-holds
+    make-room-requires
+    shared-slice-read-wide
+    wide-requires
+    put-requires
+    add-i
+    loop-less
+    loop-again
+    returns)
