@@ -20,6 +20,7 @@ use Rattle.runs.specs.Combine.{encUp}
 use Rattle.runs.specs.Turns.{Is, Turns}
 use Rattle.runs.proofs.Cases.{by-test}
 use Rattle.runs.proofs.Chunks.{flat-append}
+use Rattle.runs.proofs.Firsts.{firsts-are}
 use Rattle.runs.proofs.Words.{drop-zeros}
 use Rattle.model.specs.Widths.{class-head, place-width}
 use Rattle.model.specs.Class.{class-of}
@@ -45,10 +46,23 @@ use Rattle.book.proofs.Spots.{at-index, at-entries, at-listed, has-one,
 use Rattle.book.proofs.Finding.{holders-sum, units-sum, units-small, if-none-le, entries-le, index-is, word-of}
 
 -- ---- contracts on the places alone
-pub body-one : (b : Shares) (c : Class) (ws last : List ℕ) (w : Is (class-form b c .enc) (class-form b c .Ok) ws) (f : List Place → List Place)
-    → drop class-head last ≡ encUp (place-form c (b .pairs)) (b .places) (f (w .value .places)) → BodyTurns b c f ws last
-body-one b c ws last w f e = record {
-  does = λ h ok is. e ∙ ap (λ (x : Held). encUp (place-form c (b .pairs)) (b .places) (f (x .places))) (sym (only b c ws w h ok is));
+-- a part put back behind four words leaves these, so a part of the places leaves the totals
+behind-four : (x y z v : ℕ) (l ys : List ℕ) (n k : ℕ) → take 4 (putMid (suc (suc (suc (suc n)))) k (x ∷ y ∷ z ∷ v ∷ l) ys) ≡ x ∷ y ∷ z ∷ v ∷ []
+behind-four x y z v l ys n k = refl
+
+totals-stay : (ws : List ℕ) (a k n : ℕ) (ys : List ℕ) → a ≡ class-head + n → class-head ≤ length ws → take class-head (putMid a k ws ys) ≡ take class-head ws
+totals-stay ws a k n ys ha long =
+    let e = firsts-are class-head 0 ws long in
+    let s : a ≡ suc (suc (suc (suc n))) = omega arith in
+    let four = behind-four (getD ws 0 0) (getD ws 1 0) (getD ws 2 0) (getD ws 3 0) (drop class-head ws) ys n k in
+    rw s (ap (λ (l : List ℕ). take class-head (putMid (suc (suc (suc (suc n)))) k l ys)) e ∙ four ∙ sym (ap (take class-head) e))
+
+pub body-one : (b : Shares) (c : Class) (ws : List ℕ) (w : ClassIs b c ws) (a k n : ℕ) (ys : List ℕ) → a ≡ class-head + n
+    → (f : List Place → List Place) → drop class-head (putMid a k ws ys) ≡ encUp (place-form c (b .pairs)) (b .places) (f (w .is .value .places))
+    → BodyTurns b c f ws (putMid a k ws ys)
+body-one b c ws w a k n ys ha f e = record {
+  totals = let l = w .long in totals-stay ws a k n ys ha (omega arith);
+  does = λ h ok is. e ∙ ap (λ (x : Held). encUp (place-form c (b .pairs)) (b .places) (f (x .places))) (sym (only b c ws (w .is) h ok is));
 }
 
 -- the words of other places, as many as before
@@ -165,7 +179,7 @@ module _ (b : Shares) (who : Deliverer) (ws : List ℕ) (spot : Spot) (r : Roomy
           let l : length (xs ++ n ∷ []) ≡ suc (length xs) = length-append xs (n ∷ []) ∙ omega arith in
           let q : flat encode-place (xs ++ n ∷ []) ++ left ≡ flat encode-place xs ++ (encode-place n ++ left) = rw
           (flat-append encode-place xs (n ∷ []), flat-cons n [], append-assoc, append-assoc) (nothing-more xs n left) in
-          body-one b (class-of who) ws (putMid a (e - a) ws ys) (cw .is) (enter b who (spot .second))
+          body-one b (class-of who) ws cw a (e - a) (spot .place * place-width (b .pairs)) ys ha (enter b who (spot .second))
           (ap (drop class-head) p ∙ sym q ∙ same-many b (class-of who) (suc (length xs)) (xs ++ n ∷ []) l (omega arith)
           ∙ ap (encUp (place-form (class-of who) (b .pairs)) (b .places)) (sym (enter-none who (spot .second) b xs (let g = no-place in let j = (at-index b who ws spot (r .found)) in omega arith))))
 
@@ -185,7 +199,7 @@ module _ (b : Shares) (who : Deliverer) (ws : List ℕ) (spot : Spot) (r : Roomy
           let n : length (take i xs ++ q ∷ drop (suc i) xs) ≡ length xs = length-append (take i xs) (q ∷ drop (suc i) xs) ∙ rw (length-take-le i xs (omega arith), length-drop) (omega arith) in
           let x : take i xs ++ q ∷ drop (suc i) xs ≡ enter b who (spot .second) xs = ap (λ (z : Place). take i xs ++ z ∷ drop (suc i) xs) same ∙ sym
           (enter-at who (spot .second) b xs i (sym (at-index b who ws spot (r .found))) l) in
-          body-one b (class-of who) ws (putMid a (e - a) ws ys) (cw .is) (enter b who (spot .second))
+          body-one b (class-of who) ws cw a (e - a) (spot .place * place-width (b .pairs)) ys ha (enter b who (spot .second))
           (p ∙ same-many b (class-of who) (length xs) (take i xs ++ q ∷ drop (suc i) xs) n (few b (class-of who) ws cw) ∙ ap (encUp (place-form (class-of who) (b .pairs)) (b .places)) x)
 
       -- its second is listed
@@ -193,7 +207,15 @@ module _ (b : Shares) (who : Deliverer) (ws : List ℕ) (spot : Spot) (r : Roomy
         there : spot .before < length (now .pairs)
         there = second-below (spot .second) (spot .before) (now .pairs) (sym (hit b who ws spot (r .found) some a e ha he) ∙ yes)
 
+        has-now : Has (spot .before) now
+        has-now = record {
+          there = there;
+          some = count-some 0 (spot .before) (now .pairs) ((here-fine b who ws spot (r .found) some a e ha he) .pairs)
+              there;
+        }
+
         pub raise-asks : Wide (midOf a (e - a) ws) × (spot .before < getD (midOf a (e - a) ws) 3 0) × (count-at (spot .before) (pairs-in (midOf a (e - a) ws)) ≤ most-entries)
+            × Is encode-place (Has (spot .before)) (midOf a (e - a) ws)
         raise-asks =
             let m = count-most (spot .before) (now .pairs) in
             let f = (here-fine b who ws spot (r .found) some a e ha he) .few in (
@@ -201,16 +223,13 @@ module _ (b : Shares) (who : Deliverer) (ws : List ℕ) (spot : Spot) (r : Roomy
               rw (here-seen b who ws spot (r .found) some a e ha he) there,
               rw
                   ((here-seen b who ws spot (r .found) some a e ha he), count-in now (spot .before)) (omega arith),
+              record { value = now; ok = has-now; words = here-seen b who ws spot (r .found) some a e ha he },
             )
 
         pub enters-listed : (ys : List ℕ) → Turns encode-place (Has (spot .before)) (raised-place (spot .before)) (λ p. tt {0}) (midOf a (e - a) ws) ys (tt {0})
             → BodyTurns b (class-of who) (enter b who (spot .second)) ws (putMid a (e - a) ws ys)
         enters-listed ys t =
-            let y = t .does now (record {
-              there = there;
-              some = count-some 0 (spot .before) (now .pairs) ((here-fine b who ws spot (r .found) some a e ha he) .pairs)
-                  there;
-            }) (here-seen b who ws spot (r .found) some a e ha he) in
+            let y = t .does now has-now (here-seen b who ws spot (r .found) some a e ha he) in
             let s : second-at (spot .second) (before (spot .second) (now .pairs)) (now .pairs) ≡ true = rw (← (before-is b who ws spot (r .found) some a e ha he))
             (sym (hit b who ws spot (r .found) some a e ha he) ∙ yes) in
             let q : add-pair (spot .second) (now .pairs) ≡ raise-at (spot .before) (now .pairs) = add-listed (spot .second) (now .pairs) s ∙ rw (before-is b who ws spot (r .found) some a e ha he) in
@@ -228,21 +247,27 @@ module _ (b : Shares) (who : Deliverer) (ws : List ℕ) (spot : Spot) (r : Roomy
         at-most : spot .before ≤ length (now .pairs)
         at-most = let k = before-le (spot .second) (now .pairs) in let e = (before-is b who ws spot (r .found) some a e ha he) in omega arith
 
+        fits-now : Fits (spot .before) now
+        fits-now =
+            let k = below-most in
+            let c = (here-fine b who ws spot (r .found) some a e ha he) .cells in
+            record { there = at-most; room = omega arith }
+
         pub insert-asks : Wide (midOf a (e - a) ws) × (spot .before ≤ getD (midOf a (e - a) ws) 3 0) × (place-width (getD (midOf a (e - a) ws) 3 0 + 1) ≤ length (midOf a (e - a) ws))
+            × Is encode-place (Fits (spot .before)) (midOf a (e - a) ws)
         insert-asks =
             let k = below-most in (
               (wide b who ws spot (r .found) some a e ha he),
               rw (here-seen b who ws spot (r .found) some a e ha he) at-most,
               rw
                   ((here-seen b who ws spot (r .found) some a e ha he), place-long (class-of who) (b .pairs) now (here-fine b who ws spot (r .found) some a e ha he)) (omega arith),
+              record { value = now; ok = fits-now; words = here-seen b who ws spot (r .found) some a e ha he },
             )
 
         pub enters-pair : (ys : List ℕ) → Turns encode-place (Fits (spot .before)) (longer-place (spot .before) (spot .second)) (λ p. tt {0}) (midOf a (e - a) ws) ys (tt {0})
             → BodyTurns b (class-of who) (enter b who (spot .second)) ws (putMid a (e - a) ws ys)
         enters-pair ys t =
-            let k = below-most in
-            let c = (here-fine b who ws spot (r .found) some a e ha he) .cells in
-            let y = t .does now (record { there = at-most; room = omega arith }) (here-seen b who ws spot (r .found) some a e ha he) in
+            let y = t .does now fits-now (here-seen b who ws spot (r .found) some a e ha he) in
             let s : second-at (spot .second) (before (spot .second) (now .pairs)) (now .pairs) ≡ false = rw (← (before-is b who ws spot (r .found) some a e ha he))
             (sym (hit b who ws spot (r .found) some a e ha he) ∙ not-yet) in
             let q : add-pair (spot .second) (now .pairs) ≡ insert-at (spot .before) (spot .second) (now .pairs) = add-new (spot .second) (now .pairs) s ∙ rw

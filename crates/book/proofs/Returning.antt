@@ -14,7 +14,7 @@ use Rattle.model.specs.declared.Deliverer.{Deliverer}
 use Rattle.model.specs.declared.Shares.{Shares}
 use Rattle.runs.specs.Chunks.{flat}
 use Rattle.runs.specs.Combine.{encUp}
-use Rattle.runs.specs.Turns.{Turns}
+use Rattle.runs.specs.Turns.{Is, Turns}
 use Rattle.runs.proofs.Cases.{by-test}
 use Rattle.runs.proofs.Chunks.{flat-append}
 use Rattle.model.specs.Widths.{class-head, place-width}
@@ -219,7 +219,7 @@ module _ (b : Shares) (who : Deliverer) (ws : List ℕ) (spot : Spot) (f : Found
             (replicate-append-replicate W ((b .places - length xs) * W) 0) in
             let g : flat encode-place (front ++ back) ++ replicate ((b .places - length (front ++ back)) * W) 0 ≡ flat encode-place front ++ ((flat encode-place back ++ replicate W 0) ++ z) =
             rw (r, flat-append encode-place front back, append-assoc, append-assoc) in
-            body-one b c ws (putMid a (e - a) ws ys) (w .is) (give-back who (spot .second))
+            body-one b c ws w a (e - a) (i * W) ys ha (give-back who (spot .second))
             (ap (drop class-head) p ∙ sym g ∙ sym (up-flat c (b .pairs) (b .places) (front ++ back) (omega arith)) ∙ ap (encUp (place-form c (b .pairs)) (b .places)) (sym back-shorter))
 
     -- ---- the place stays
@@ -249,12 +249,13 @@ module _ (b : Shares) (who : Deliverer) (ws : List ℕ) (spot : Spot) (f : Found
         pub count-asks : Wide (midOf a (e - a) ws) × (spot .before < getD (midOf a (e - a) ws) 3 0)
         count-asks = (wide-now, below-now)
 
-        pub remove-asks : Wide (midOf a (e - a) ws) × (spot .before < getD (midOf a (e - a) ws) 3 0) × (1 ≤ getD (midOf a (e - a) ws) 2 0)
-        remove-asks = (wide-now, below-now, some-entries)
+        has-now : Has (spot .before) now
+        has-now = record { there = there; some = count-some 0 (spot .before) (now .pairs) (fine .pairs) there }
 
         pub lower-asks : Wide (midOf a (e - a) ws) × (spot .before < getD (midOf a (e - a) ws) 3 0)
             × (1 ≤ count-at (spot .before) (pairs-in (midOf a (e - a) ws))) × (1 ≤ getD (midOf a (e - a) ws) 2 0)
-        lower-asks = (wide-now, below-now, rw count-now (count-some 0 (spot .before) (now .pairs) (fine .pairs) there), some-entries)
+            × Is encode-place (Has (spot .before)) (midOf a (e - a) ws)
+        lower-asks = (wide-now, below-now, rw count-now (has-now .some), some-entries, record { value = now; ok = has-now; words = seen })
 
         returns-here : (q : Place) (ys : List ℕ) → ys ≡ encode-place q → q ≡ with-pairs left now
             → BodyTurns b (class-of who) (give-back who (spot .second)) ws (putMid a (e - a) ws ys)
@@ -264,18 +265,25 @@ module _ (b : Shares) (who : Deliverer) (ws : List ℕ) (spot : Spot) (f : Found
             let p = put-here b (class-of who) ws (f .class) i l a e ha he q ys is in
             let n : length (front ++ q ∷ back) ≡ length xs = length-append front (q ∷ back) ∙ sym length-cut in
             let x : front ++ q ∷ back ≡ give-back who (spot .second) xs = ap (λ (z : Place). front ++ z ∷ back) same ∙ sym back-same in
-            body-one b (class-of who) ws (putMid a (e - a) ws ys) (f .class .is) (give-back who (spot .second))
+            body-one b (class-of who) ws (f .class) a (e - a) (i * place-width (b .pairs)) ys ha (give-back who (spot .second))
             (p ∙ same-many b (class-of who) (length xs) (front ++ q ∷ back) n (few b (class-of who) ws (f .class)) ∙ ap (encUp (place-form (class-of who) (b .pairs)) (b .places)) x)
 
         hit-before : second-at (spot .second) (before (spot .second) (now .pairs)) (now .pairs) ≡ true
         hit-before = rw (← before-now) hit-now
 
         module _ (n : ℕ) (hn : n ≡ count-at (spot .before) (pairs-in (midOf a (e - a) ws))) where
+          single-now : n ≡ 1 → Single (spot .before) now
+          single-now one = record { there = there; one = sym count-now ∙ sym hn ∙ one }
+
+          pub remove-asks : n ≡ 1 → Wide (midOf a (e - a) ws) × (spot .before < getD (midOf a (e - a) ws) 3 0) × (1 ≤ getD (midOf a (e - a) ws) 2 0)
+              × Is encode-place (Single (spot .before)) (midOf a (e - a) ws)
+          remove-asks one = (wide-now, below-now, some-entries, record { value = now; ok = single-now one; words = seen })
+
           pub returns-single : n ≡ 1 → (ys : List ℕ) → Turns encode-place (Single (spot .before)) (shorter-place (spot .before)) (λ p. tt {0}) (midOf a (e - a) ws) ys (tt {0})
               → BodyTurns b (class-of who) (give-back who (spot .second)) ws (putMid a (e - a) ws ys)
           returns-single one ys t =
-              let c : count-at (spot .before) (now .pairs) ≡ 1 = sym count-now ∙ sym hn ∙ one in
-              let y = t .does now (record { there = there; one = c }) seen in
+              let c = single-now one .one in
+              let y = t .does now (single-now one) seen in
               let d : count-at (before (spot .second) (now .pairs)) (now .pairs) ≤ 1 = rw (← before-now) (omega arith) in
               let q : left ≡ remove-at (spot .before) 1 (now .pairs) = lower-last (spot .second) (now .pairs) hit-before d ∙ rw before-now in
               returns-here (shorter-place (spot .before) now) ys (y .0) (ap (λ (z : List Pair). with-pairs z now) (sym q))
@@ -283,8 +291,8 @@ module _ (b : Shares) (who : Deliverer) (ws : List ℕ) (spot : Spot) (f : Found
           pub returns-lower : (n ≡ 1 → ⊥) → (ys : List ℕ) → Turns encode-place (Has (spot .before)) (lowered-place (spot .before)) (λ p. tt {0}) (midOf a (e - a) ws) ys (tt {0})
               → BodyTurns b (class-of who) (give-back who (spot .second)) ws (putMid a (e - a) ws ys)
           returns-lower many ys t =
-              let s = count-some 0 (spot .before) (now .pairs) (fine .pairs) there in
-              let y = t .does now (record { there = there; some = s }) seen in
+              let s = has-now .some in
+              let y = t .does now has-now seen in
               let c : n ≡ count-at (spot .before) (now .pairs) = hn ∙ count-now in
               let g : 1 < count-at (spot .before) (now .pairs) = rw (← c) (above n (rw (← c) at s) many) in
               let d : 1 < count-at (before (spot .second) (now .pairs)) (now .pairs) = rw (← before-now) g in

@@ -3,7 +3,7 @@ use Prim.Native.Nat.{ℕ, suc, _+_, _*_, _≤_}
 use mathlib.Core.Path.{_≡_}
 use mathlib.Core.Bool.{Bool, true, cond}
 use mathlib.Core.List.{List, [], _∷_}
-use lib.ListN.{length, getD, drop}
+use lib.ListN.{length, getD, take, drop}
 use Rattle.model.specs.declared.Class.{Class}
 use Rattle.model.specs.declared.Deliverer.{Deliverer}
 use Rattle.model.specs.declared.Shares.{Shares}
@@ -76,8 +76,9 @@ pub record Listed (b : Shares) (who : Deliverer) (ws : List ℕ) (spot : Spot) :
   pub within : class-head + spot .place * place-width (b .pairs) + place-width (b .pairs) ≤ length ws
   pub before-end : class-head + spot .place * place-width (b .pairs) + place-width (b .pairs) ≤ class-head + getD ws 1 0 * place-width (b .pairs)
 
--- what a function does to the places alone: the words after the totals become those of `f` of the places
+-- what a function does to the places alone: the totals stay, and the words after them become those of `f` of the places
 pub record BodyTurns (b : Shares) (c : Class) (f : List Place → List Place) (before after : List ℕ) : Type 0 where
+  pub totals : take class-head after ≡ take class-head before
   pub does : (h : Held) → class-form b c .Ok h → before ≡ class-form b c .enc h
       → drop class-head after ≡ encUp (place-form c (b .pairs)) (b .places) (f (h .places))
 

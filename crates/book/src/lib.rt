@@ -15,7 +15,7 @@ ghost use Rattle.model.specs.Widths.{class-head};
 ghost use Rattle.model.specs.Settings.{limits-fit};
 ghost use Rattle.model.specs.Class.{class-of};
 ghost use Rattle.model.specs.Book.{draw-test, enter, give-back, entries-of};
-ghost use Rattle.book.specs.Sums.{totals-of};
+ghost use Rattle.book.specs.Sums.{totals-in, totals-of};
 ghost use Rattle.book.specs.ClassRules.{ClassIs, ClassReads, ClassTurns, place-index, spot-of, Found, Roomy, Listed, BodyTurns, entered, drawn-class, returned};
 use model::Class;
 use model::Deliverer;
@@ -191,6 +191,7 @@ pub fn held_by(part: &[u64], shares: Shares, who: Deliverer) -> u64
 // The totals of a class: entries, holders, units and `expired`.
 pub fn held_of(part: &[u64]) -> totals::Totals
     requires { ⌜ class-head ≤ length (now part) ⌝ }
+    ensures { λ r. ⌜ r ≡ totals-in (now (part .entry)) ⌝ }
     ensures { λ r. ⌜ ((b : Shares) (c : Class) → ClassReads b c (totals-of b) (now (part .entry)) r) ⌝ }
 {
     totals::read(part)

@@ -2,7 +2,7 @@
 ghost use Prim.Native.Nat.{_+_, _≤_, _<_};
 ghost use mathlib.Core.Path.{_≡_};
 ghost use lib.ListN.{length, getD};
-ghost use Rattle.runs.specs.Turns.{Turns};
+ghost use Rattle.runs.specs.Turns.{Is, Turns};
 ghost use Rattle.model.specs.Widths.{place-width};
 ghost use Rattle.model.specs.Class.{kind-of};
 ghost use Rattle.model.specs.Book.{total};
@@ -89,7 +89,7 @@ pub fn open(place: &mut [u64], who: Deliverer, second: u64)
 
 // One entry more at pair k.
 pub fn raise(place: &mut [u64], k: usize)
-    requires { ⌜ Wide (now place) × (k < getD (now place) 3 0) × (count-at k (pairs-in (now place)) ≤ most-entries) ⌝ }
+    requires { ⌜ Wide (now place) × (k < getD (now place) 3 0) × (count-at k (pairs-in (now place)) ≤ most-entries) × Is encode-place (Has k) (now place) ⌝ }
     ensures { λ _. ⌜ Turns encode-place (Has k) (raised-place k) (λ p. tt {0}) (now (place .entry)) (now (place .exit)) (tt {0}) ⌝ }
 {
     let sum = place[layout::PLACE_ENTRIES];
@@ -100,7 +100,7 @@ pub fn raise(place: &mut [u64], k: usize)
 
 // A pair of one entry comes before pair k.
 pub fn insert(place: &mut [u64], k: usize, second: u64)
-    requires { ⌜ Wide (now place) × (k ≤ getD (now place) 3 0) × (place-width (getD (now place) 3 0 + 1) ≤ length (now place)) ⌝ }
+    requires { ⌜ Wide (now place) × (k ≤ getD (now place) 3 0) × (place-width (getD (now place) 3 0 + 1) ≤ length (now place)) × Is encode-place (Fits k) (now place) ⌝ }
     ensures { λ _. ⌜ Turns encode-place (Fits k) (longer-place k second) (λ p. tt {0}) (now (place .entry)) (now (place .exit)) (tt {0}) ⌝ }
 {
     let sum = place[layout::PLACE_ENTRIES];
@@ -121,7 +121,7 @@ pub fn count(place: &[u64], k: usize) -> u64
 
 // One entry less at pair k.
 pub fn lower(place: &mut [u64], k: usize)
-    requires { ⌜ Wide (now place) × (k < getD (now place) 3 0) × (1 ≤ count-at k (pairs-in (now place))) × (1 ≤ getD (now place) 2 0) ⌝ }
+    requires { ⌜ Wide (now place) × (k < getD (now place) 3 0) × (1 ≤ count-at k (pairs-in (now place))) × (1 ≤ getD (now place) 2 0) × Is encode-place (Has k) (now place) ⌝ }
     ensures { λ _. ⌜ Turns encode-place (Has k) (lowered-place k) (λ p. tt {0}) (now (place .entry)) (now (place .exit)) (tt {0}) ⌝ }
 {
     let sum = place[layout::PLACE_ENTRIES];
@@ -132,7 +132,7 @@ pub fn lower(place: &mut [u64], k: usize)
 
 // Pair k, of one entry, goes.
 pub fn remove(place: &mut [u64], k: usize)
-    requires { ⌜ Wide (now place) × (k < getD (now place) 3 0) × (1 ≤ getD (now place) 2 0) ⌝ }
+    requires { ⌜ Wide (now place) × (k < getD (now place) 3 0) × (1 ≤ getD (now place) 2 0) × Is encode-place (Single k) (now place) ⌝ }
     ensures { λ _. ⌜ Turns encode-place (Single k) (shorter-place k) (λ p. tt {0}) (now (place .entry)) (now (place .exit)) (tt {0}) ⌝ }
 {
     let sum = place[layout::PLACE_ENTRIES];
@@ -150,7 +150,7 @@ pub struct Left {
 
 // The pairs before a second go: one walk over the pairs that go, and the others move down.
 pub fn expire(place: &mut [u64], t: u64) -> Left
-    requires { ⌜ Wide (now place) × (total (pairs-in (now place)) ≡ getD (now place) 2 0) ⌝ }
+    requires { ⌜ Wide (now place) × (total (pairs-in (now place)) ≡ getD (now place) 2 0) × Is encode-place Sums (now place) ⌝ }
     ensures { λ r. ⌜ Turns encode-place Sums (later-place t) (left-of t) (now (place .entry)) (now (place .exit)) r ⌝ }
 {
     let sum = place[layout::PLACE_ENTRIES];

@@ -28,16 +28,17 @@ use Rattle.book.proofs.ClassWords.{turns-one, flat-long, up-flat, holders-are}
 use Rattle.book.proofs.Finding.{in-part}
 use Rattle.book.proofs.Entering.{class-words}
 use Rattle.book_expiry.specs.declared.Kept.{Kept}
-use Rattle.book_expiry.specs.Walks.{Walk, Standing, Steps, lead-of, rest-of, Walking, freed-to}
+use Rattle.book_expiry.specs.Walks.{between, Walk, Standing, Steps, lead-of, rest-of, Walking, freed-to}
 use Rattle.book_expiry.proofs.Lists.{kept-ok, first-units, first-entries, first-length}
 
 -- ---- nothing has been seen yet
 module _ (b : Shares) (c : Class) (t : ℕ) (ws : List ℕ) where
   none-seen : (h : Held) → class-form b c .Ok h → ws ≡ class-form b c .enc h
       → Walk b t 0 (lead-of b h) (h .places) (rest-of b h) (record { places = 0; entries = 0; units = 0 }) ws
-  unfolding later-places entries-in units flat
+  unfolding later-places entries-in units flat between
   none-seen h ok is = record {
     gap = [];
+    left = refl;
     words = is ∙ ap (λ (l : List ℕ). lead-of b h ++ l) (up-flat c (b .pairs) (b .places) (h .places) (ok .1 .0 .0));
     size = rw zero-mul;
     places = refl;

@@ -2,9 +2,12 @@
 use Prim.Native.Nat.{ℕ, suc, _+_, _-_, _*_, _<_, _≤_}
 use native.Mathlib.Omega.{arith}
 use mathlib.Core.Path.{_≡_, refl, ap, sym, subst, _∙_}
+use mathlib.Core.Bool.{cond}
 use mathlib.Core.List.{List, [], _∷_, _++_, append-nil}
 use lib.ListN.{length, getD, take, drop, replicate, length-append, length-drop, length-replicate, take-append-drop}
 use lib.Seq.{take-suc}
+use lib.Dec.{eqb}
+use borrow.Author.Tests.{eq-eqb, ne-eqb}
 use Rattle.model.specs.declared.Class.{Class}
 use Rattle.model.specs.declared.Shares.{Shares}
 use Rattle.model.specs.Widths.{place-width}
@@ -14,6 +17,7 @@ use Rattle.model.proofs.BookWords.{length-pairs}
 use Rattle.model.proofs.Pairs.{total-later}
 use Rattle.model.proofs.Places.{PlacesOk, fewer-length, fewer-entries, fewer-places, later-fewer}
 use Rattle.book.proofs.ClassWords.{nobody, ok-append}
+use Rattle.book_expiry.specs.Walks.{expired-words, between}
 use Rattle.book.proofs.ClassLists.{entries-append, units-append}
 
 -- ---- a place comes after others, or is gone
@@ -56,6 +60,26 @@ module _ (t i : ℕ) (ps : List Place) (h : i < length ps) where
   pub later-here : (length (later-pairs t (here .pairs)) ≡ 0 → ⊥)
       → later-places t (take (suc i) ps) ≡ later-places t (take i ps) ++ with-pairs (later-pairs t (here .pairs)) here ∷ []
   later-here e = later-suc ∙ rw (keep-here (later-pairs t (here .pairs)) here e)
+
+-- ---- the words between
+between-append : (W t : ℕ) (gap : List ℕ) (xs ys : List Place) → between W t gap (xs ++ ys) ≡ between W t (between W t gap xs) ys
+unfolding between
+between-append W t gap [] ys = refl
+between-append W t gap (p ∷ xs) ys = between-append W t _ xs ys
+
+module _ (W t i : ℕ) (ps : List Place) (h : i < length ps) (gap : List ℕ) (is : gap ≡ between W t [] (take i ps)) where
+  between-suc : between W t [] (take (suc i) ps)
+      ≡ drop (cond (eqb (length (later-pairs t (getD ps i nobody .pairs))) 0) 0 W) (gap ++ expired-words t (getD ps i nobody))
+  unfolding between
+  between-suc = ap (between W t []) (take-suc ps i nobody h) ∙ between-append W t [] (take i ps) (getD ps i nobody ∷ []) ∙ rw is
+
+  pub between-gone : length (later-pairs t (getD ps i nobody .pairs)) ≡ 0
+      → gap ++ expired-words t (getD ps i nobody) ≡ between W t [] (take (suc i) ps)
+  between-gone e = rw (between-suc, eq-eqb (length (later-pairs t (getD ps i nobody .pairs))) 0 e)
+
+  pub between-here : (length (later-pairs t (getD ps i nobody .pairs)) ≡ 0 → ⊥)
+      → drop W (gap ++ expired-words t (getD ps i nobody)) ≡ between W t [] (take (suc i) ps)
+  between-here n = rw (between-suc, ne-eqb (length (later-pairs t (getD ps i nobody .pairs))) 0 n)
 
 -- ---- a place with fewer pairs takes as many words
 pub fewer-long : (c : Class) (E : ℕ) (qs : List Pair) (p : Place) → PlaceOk c E p → length qs ≤ length (p .pairs)

@@ -11,7 +11,7 @@ use borrow.Rule.Slice.PartMut.{midOf, putMid}
 use Rattle.model.specs.declared.Class.{Class}
 use Rattle.model.specs.declared.Shares.{Shares}
 use Rattle.runs.specs.Chunks.{flat}
-use Rattle.runs.specs.Turns.{Turns}
+use Rattle.runs.specs.Turns.{Is, Turns}
 use Rattle.runs.proofs.Chunks.{flat-append}
 use Rattle.runs.proofs.Each.{each-at}
 use Rattle.model.specs.Widths.{class-head, place-head, place-width}
@@ -28,7 +28,7 @@ use Rattle.book.proofs.ClassLists.{entries-append, units-append}
 use Rattle.book.proofs.Finding.{place-wide}
 use Rattle.book_expiry.specs.declared.Kept.{Kept}
 use Rattle.book_expiry.specs.Walks.{with-words, Walk, Standing, Steps}
-use Rattle.book_expiry.proofs.Lists.{later-gone, later-here, fewer-long, kept-ok}
+use Rattle.book_expiry.proofs.Lists.{later-gone, later-here, between-gone, between-here, fewer-long, kept-ok}
 
 -- ---- place i in words of which the places before it have been seen
 module _ (b : Shares) (c : Class) (t i : ℕ) (lead : List ℕ) (ps : List Place) (rest : List ℕ) (k : Kept) (ws : List ℕ)
@@ -80,8 +80,16 @@ module _ (b : Shares) (c : Class) (t i : ℕ) (lead : List ℕ) (ps : List Place
     seen : midOf a (e - a) ws ≡ encode-place p
     seen = rw size (ap (midOf a W) cut ∙ mid-of (u ++ w .gap) (encode-place p) v a W (until-long ∙ sym ha) (place-long c (b .pairs) p fine))
 
+    sums : Sums p
+    sums = record { rise = fine .pairs; small = fine .few }
+
     pub expire-asks : b .pairs ≤ 512 → Wide (midOf a (e - a) ws) × (total (pairs-in (midOf a (e - a) ws)) ≡ getD (midOf a (e - a) ws) 2 0)
-    expire-asks h = rw seen (place-wide c (b .pairs) p fine h, ap total (read-flat (p .pairs) (p .past)))
+        × Is encode-place Sums (midOf a (e - a) ws)
+    expire-asks h = (
+      rw seen (place-wide c (b .pairs) p fine h),
+      rw seen (ap total (read-flat (p .pairs) (p .past))),
+      record { value = p; ok = sums; words = seen },
+    )
 
     -- ---- its pairs before t have gone
     module _ (ys : List ℕ) (left : Left) (x : Turns encode-place Sums (later-place t) (left-of t) (midOf a (e - a) ws) ys left) where
@@ -92,7 +100,7 @@ module _ (b : Shares) (c : Class) (t i : ℕ) (lead : List ℕ) (ps : List Place
       q = with-pairs (later-pairs t (getD ps i nobody .pairs)) (getD ps i nobody)
 
       turned : (ys ≡ encode-place q) × (left ≡ left-of t p)
-      turned = x .does p (record { rise = fine .pairs; small = fine .few }) seen
+      turned = x .does p sums seen
 
       many : left .pairs ≡ length qs
       many = ap (λ (l : Left). l .pairs) (turned .1)
@@ -116,6 +124,7 @@ module _ (b : Shares) (c : Class) (t i : ℕ) (lead : List ℕ) (ps : List Place
           mid-is ∙ append-assoc u (w .gap) (encode-place q ++ v) ∙ ap (λ (y : List ℕ). u ++ y) (sym (append-assoc (w .gap) (encode-place q) v)) in
           record {
             gap = w .gap ++ encode-place q;
+            left = between-gone W t i ps below (w .gap) (w .left) (sym many ∙ z);
             words = rw g word;
             size = rw g (omega arith);
             places = rw g (w .places);
@@ -167,6 +176,12 @@ module _ (b : Shares) (c : Class) (t i : ℕ) (lead : List ℕ) (ps : List Place
             let g = gap-long in
             omega arith
 
+        -- the words but for the first place of them
+        stale-is : stale ≡ drop W m
+        stale-is =
+            let n : length m - (a - j) ≡ W = let l = m-long in let g = gap-long in omega arith in
+            rw n
+
         flat-more : flat encode-place (kept ++ q ∷ []) ≡ flat encode-place kept ++ encode-place q
         unfolding flat
         flat-more = flat-append encode-place kept (q ∷ []) ∙ ap (λ (y : List ℕ). flat encode-place kept ++ y) (append-nil (encode-place q))
@@ -207,6 +222,7 @@ module _ (b : Shares) (c : Class) (t i : ℕ) (lead : List ℕ) (ps : List Place
               let s2 : length (kept ++ q ∷ []) * W ≡ k .places * W + W = ap (λ (x : ℕ). x * W) (l ∙ ap suc (sym y)) ∙ suc-mul (k .places) W in
               rw counted (record {
                 gap = stale;
+                left = stale-is ∙ between-here W t i ps below (w .gap) (w .left) (λ z. some (many ∙ z));
                 words = rw g more-words;
                 size = rw g (omega arith);
                 places = rw g (omega arith);
@@ -217,6 +233,7 @@ module _ (b : Shares) (c : Class) (t i : ℕ) (lead : List ℕ) (ps : List Place
 -- ---- the same as contracts: what the calls ask, and what is left
 module _ (b : Shares) (c : Class) (t i : ℕ) (k : Kept) (ws : List ℕ) (a e : ℕ) (ha : a ≡ class-head + i * place-width (b .pairs)) (he : e ≡ a + place-width (b .pairs)) where
   pub asks-expire : Standing b c t i k ws → Wide (midOf a (e - a) ws) × (total (pairs-in (midOf a (e - a) ws)) ≡ getD (midOf a (e - a) ws) 2 0)
+      × Is encode-place Sums (midOf a (e - a) ws)
   asks-expire s = expire-asks b c t i (s .lead) (s .ps) (s .rest) k ws (s .totals) (s .ok) (s .below) (s .walk) a e ha he (s .pairs)
 
   module _ (ys : List ℕ) (left : Left) (x : Turns encode-place Sums (later-place t) (left-of t) (midOf a (e - a) ws) ys left) where

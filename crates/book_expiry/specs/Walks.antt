@@ -1,14 +1,16 @@
 -- An expiry under way: the places before i have been seen, and those of them that keep pairs lie one behind the other at the front.
 use Prim.Native.Nat.{ℕ, suc, _+_, _-_, _*_, _≤_, _<_}
 use mathlib.Core.Path.{_≡_}
+use mathlib.Core.Bool.{cond}
 use mathlib.Core.List.{List, [], _∷_, _++_}
 use lib.ListN.{length, getD, take, drop, replicate}
+use lib.Dec.{eqb}
 use Rattle.model.specs.declared.Class.{Class}
 use Rattle.model.specs.declared.Shares.{Shares}
 use Rattle.runs.specs.Chunks.{flat}
 use Rattle.runs.specs.Combine.{EachOk}
 use Rattle.model.specs.Widths.{class-head, place-width}
-use Rattle.model.specs.Book.{Place, Held, entries-in, place-units, units, later-places}
+use Rattle.model.specs.Book.{Place, Held, entries-in, place-units, units, with-pairs, later-pairs, later-places}
 use Rattle.model.specs.BookWords.{most-entries, read-who, encode-place, PlaceOk, class-form}
 use Rattle.book_expiry.specs.declared.Kept.{Kept}
 
@@ -20,10 +22,21 @@ with-words b c ws k = record {
   units = k .units + getD ws 2 0 + place-units b (read-who c (getD ws 0 0) (getD ws 1 0));
 }
 
--- Behind the lead: the places kept, words that mean nothing, the places that are not seen yet, and the rest.
+-- what an expiry leaves of a place, in the place's own words
+abbrev pub expired-words : ℕ → Place → List ℕ
+expired-words t p = encode-place (with-pairs (later-pairs t (p .pairs)) p)
+
+-- The words between the places kept and those not seen yet, where a place has W words. A place that goes leaves its own there. One that
+-- is kept moves down over the first of them, and leaves a copy behind.
+unfoldable pub between : ℕ → ℕ → List ℕ → List Place → List ℕ
+between W t gap [] = gap
+between W t gap (p ∷ ps) = between W t (drop (cond (eqb (length (later-pairs t (p .pairs))) 0) 0 W) (gap ++ expired-words t p)) ps
+
+-- Behind the lead: the places kept, the words between, the places that are not seen yet, and the rest.
 pub record Walk (b : Shares) (t i : ℕ) (lead : List ℕ) (ps : List Place) (rest : List ℕ) (k : Kept) (ws : List ℕ) : Type 0 where
   pub gap : List ℕ
   pub words : ws ≡ (lead ++ flat encode-place (later-places t (take i ps))) ++ (gap ++ (flat encode-place (drop i ps) ++ rest))
+  pub left : gap ≡ between (place-width (b .pairs)) t [] (take i ps)
   pub size : length (later-places t (take i ps)) * place-width (b .pairs) + length gap ≡ i * place-width (b .pairs)
   pub places : k .places ≡ length (later-places t (take i ps))
   pub entries : k .entries ≡ entries-in (later-places t (take i ps))

@@ -7,8 +7,8 @@ use mathlib.Core.Bool.{Bool, true, false, not, _&&_, _||_, and-assoc, and-true}
 use mathlib.Core.List.{List, [], _∷_}
 use lib.ListN.{length, getD, drop, drop-of-length-le}
 use lib.Seq.{drop-cons}
-use lib.Dec.{eqb}
-use borrow.Author.Tests.{eq-eqb, ne-eqb, eqb-true, eqb-false, not-true}
+use lib.Dec.{eqb, ltb}
+use borrow.Author.Tests.{eq-eqb, ne-eqb, eqb-true, eqb-false, not-true, ltb-true, ltb-false}
 use Rattle.runs.proofs.Cases.{by-test, both-true, no}
 use Rattle.model.specs.Generation.{among}
 use Rattle.distinct.specs.Runs.{distinct, differs, Rising, times, Sorts}
@@ -99,6 +99,31 @@ distinct-same a b s =
     by-test (distinct b)
     (λ u. no (let v = once-distinct a (λ x h. let k = distinct-once b u x h in let e = s x in omega arith) in cc))
     (λ u. t ∙ sym u))
+
+-- ---- words can be sorted in one way alone: of two rising lists with the same words in them the first words are the same
+first-same : (x y : ℕ) (a b : List ℕ) → Rising y b → times x (x ∷ a) ≡ times x (y ∷ b) → x < y → ⊥
+unfolding times
+first-same x y a b r e h =
+    let n = never x b (absent x y b h r) in
+    let d : eqb x y ≡ false = ne-eqb x y (λ q. omega arith) in
+    let k = rw (eq-eqb x x refl, d, n) at e in
+    omega arith
+
+one-order : (m n : ℕ) (a b : List ℕ) → Rising m a → Rising n b → ((x : ℕ) → times x a ≡ times x b) → a ≡ b
+unfolding Rising times
+one-order m n [] [] r q s = refl
+one-order m n [] (y ∷ b) r q s = absurd (let k = rw (eq-eqb y y refl) at (s y) in omega arith)
+one-order m n (x ∷ a) [] r q s = absurd (let k = rw (eq-eqb x x refl) at (s x) in omega arith)
+one-order m n (x ∷ a) (y ∷ b) r q s =
+    let low = first-same x y a b (q .1) (s x) in
+    let high = first-same y x b a (r .1) (sym (s y)) in
+    let e : x ≡ y = by-test (ltb x y) (λ t. absurd (low (ltb-true x y t)))
+    (λ t. by-test (ltb y x) (λ v. absurd (high (ltb-true y x v))) (λ v. omega (arith, ltb-false x y t, ltb-false y x v))) in
+    let rest = one-order x y a b (r .1) (q .1) (λ z. let k = rw e at (s z) in omega arith) in
+    cc
+
+pub sorted-alone : (ws a b : List ℕ) → Sorts ws a → Sorts ws b → a ≡ b
+sorted-alone ws a b s t = one-order 0 0 a b (s .rising) (t .rising) (λ x. s .same x ∙ sym (t .same x))
 
 -- ---- so sorted words tell
 pub told : (ws sorted : List ℕ) → Sorts ws sorted → differs 0 sorted ≡ distinct ws

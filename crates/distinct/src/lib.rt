@@ -2,14 +2,14 @@
 use crate::sort::sort;
 ghost use mathlib.Core.Path.{_≡_};
 ghost use Prim.Native.Nat.{_≤_};
-ghost use lib.ListN.{length};
-ghost use Rattle.distinct.specs.Runs.{distinct, differs};
+ghost use lib.ListN.{length, replicate};
+ghost use Rattle.distinct.specs.Runs.{distinct, differs, spare-sorted, Sorts};
 
 mod sort;
 
-// The words that there is room for.
+// The words that there is room for, all 0.
 fn scratch() -> [u64; 1024]
-    ensures { λ r. ⌜ 1024 ≡ length r ⌝ }
+    ensures { λ r. ⌜ r ≡ replicate 1024 0 ⌝ }
 {
     [0u64; 1024]
 }
@@ -34,6 +34,8 @@ fn neighbours_differ(words: &[u64]) -> bool
 fn distinct_through(words: &[u64], sorted: &mut [u64], spare: &mut [u64]) -> bool
     requires { ⌜ (length (now words) ≡ length (now sorted)) × ((length (now sorted) ≤ 1024) × (length (now sorted) ≤ length (now spare))) ⌝ }
     ensures { λ r. ⌜ r ≡ distinct (now (words .entry)) ⌝ }
+    ensures { λ _. ⌜ Sorts (now (words .entry)) (now (sorted .exit)) ⌝ }
+    ensures { λ _. ⌜ now (spare .exit) ≡ spare-sorted (now (words .entry)) (now (spare .entry)) ⌝ }
 {
     runs::copy_words(sorted, words);
     sort(sorted, spare);

@@ -126,13 +126,13 @@ fn rebuild_through(slots: &mut [u64], old: &mut [u64], n: usize, wanted: usize)
 
 // Room for few slots, and for the most that a generation can have. It is filled with zeros each time, so few is cheaper.
 fn scratch_few() -> [u64; 64]
-    ensures { λ r. ⌜ 64 ≡ length r ⌝ }
+    ensures { λ r. ⌜ r ≡ replicate 64 0 ⌝ }
 {
     [0u64; 64]
 }
 
 fn scratch_most() -> [u64; 1024]
-    ensures { λ r. ⌜ 1024 ≡ length r ⌝ }
+    ensures { λ r. ⌜ r ≡ replicate 1024 0 ⌝ }
 {
     [0u64; 1024]
 }

@@ -1,40 +1,46 @@
--- A register's own words, read and stored. Assumes nothing.
-use Prim.Native.Nat.{ℕ, max}
+-- A register's own words, read and stored: of the words of a well-formed register, what specs/Heading says is what the rules say.
+use Prim.Native.Nat.{ℕ, _-_, max}
 use native.Mathlib.Omega.{arith}
 use mathlib.Core.Path.{_≡_, refl, sym, ap, _∙_}
 use mathlib.Core.Bool.{Bool, true, false, cond, _&&_}
 use mathlib.Core.List.{List}
 use mathlib.Core.Option.{Option, none, some}
 use lib.Dec.{leb, eqb}
-use lib.ListN.{getD, set}
-use borrow.Author.Tests.{leb-true, leb-false}
-use Rattle.runs.proofs.Cases.{no}
+use lib.ListN.{set}
+use borrow.Author.Tests.{eq-eqb, ne-eqb, leb-true, leb-false}
+use Rattle.runs.proofs.Cases.{by-test, no}
 use Rattle.runs.specs.Turns.{silent}
-use Rattle.model.specs.declared.Answer.the-variants.{NoFloor, FloorAt, SweptTo, Begun, Already}
+use Rattle.model.specs.declared.Answer.{Answer}
+use Rattle.model.specs.declared.Answer.the-variants.{NoFloor, FloorAt, Begun, Already}
 use Rattle.model.specs.declared.Usable.{Usable}
 use Rattle.model.specs.Numbers.{raise, under}
 use Rattle.model.specs.Register.{Register, with-floor, swept-to, published, begin}
-use Rattle.model.specs.RegisterWords.{floor-flag, floor-word, register-form}
+use Rattle.model.specs.RegisterWords.{floor-flag, floor-word, read-floor, read-heading, register-form}
+use Rattle.model.specs.Dump.{raised-to-dumped}
 use Rattle.model.specs.Calls.{floor-answer}
 use Rattle.model.proofs.RegisterWords.{flag-read}
 use Rattle.generation.specs.declared.Dropped.{Dropped}
 use Rattle.generation.specs.declared.Dropped.the-variants.{Nothing, Newest}
-use Rattle.register.specs.Rules.{raised, raised-with, begin-says, swept-answer}
+use Rattle.numbers.specs.Layout.{pending-at}
+use Rattle.register.specs.Rules.{raised, raised-with, begin-says, swept-answer, floor-gone}
+use Rattle.register.specs.Heading.{published-in, swept-in, sweep-stored, floor-stored, floor-raised, floor-raised-by, floor-dumped, begun-in, begin-told}
 use Rattle.register.specs.Words.{RegisterReads, RegisterTurns}
 
 -- ---- a floor and its two words
-floor-there : (f : Option ℕ) → floor-flag f ≡ 1 → FloorAt (floor-word f) ≡ floor-answer f
-floor-there none e = no e
-floor-there (some f) e = refl
+floor-back : (f : Option ℕ) → read-floor (floor-flag f) (floor-word f) ≡ f
+floor-back none = refl
+floor-back (some f) = refl
 
-floor-missing : (f : Option ℕ) → (floor-flag f ≡ 1 → ⊥) → NoFloor ≡ floor-answer f
-floor-missing none n = refl
-floor-missing (some f) n = absurd (n refl)
+-- what the code answers of any two words
+pub floor-there : (flag floor : ℕ) → flag ≡ 1 → FloorAt floor ≡ floor-answer (read-floor flag floor)
+floor-there flag floor e = rw (eq-eqb flag 1 e)
 
-under-words : (stamp : ℕ) (f : Option ℕ) → (eqb (floor-flag f) 1 && leb stamp (floor-word f)) ≡ under stamp f
+pub floor-missing : (flag floor : ℕ) → (flag ≡ 1 → ⊥) → NoFloor ≡ floor-answer (read-floor flag floor)
+floor-missing flag floor n = rw (ne-eqb flag 1 n)
+
+pub under-words : (stamp flag floor : ℕ) → (eqb flag 1 && leb stamp floor) ≡ under stamp (read-floor flag floor)
 unfolding under
-under-words stamp none = refl
-under-words stamp (some f) = refl
+under-words stamp flag floor = by-test (eqb flag 1) (λ e. rw e) (λ e. rw e)
 
 floor-stays : (stamp : ℕ) (f : Option ℕ) → under stamp f ≡ true → f ≡ raise f stamp
 unfolding under raise
@@ -46,60 +52,68 @@ unfolding under raise
 floor-moves stamp none t = refl
 floor-moves stamp (some f) t = let h = leb-false stamp f t in let e : stamp ≡ max f stamp = omega arith in ap some e
 
--- ---- readers
-pub pending-reads : (u : Usable) (ws : List ℕ) → RegisterReads u (λ reg. reg .pending) ws (eqb (getD ws 10 0) 1)
-pending-reads u ws = record { says = λ reg ok is. ap (λ (l : List ℕ). eqb (getD l 10 0) 1) is ∙ flag-read (reg .pending) }
+-- ---- readers: the heading of a register's words is its own
+floor-read : (u : Usable) (reg : Register) (ws : List ℕ) → ws ≡ register-form u .enc reg → read-heading ws .floor ≡ reg .floor
+floor-read u reg ws is = ap (λ (l : List ℕ). read-heading l .floor) is ∙ floor-back (reg .floor)
 
-pub swept-reads : (u : Usable) (ws : List ℕ) → RegisterReads u (swept-answer u) ws (SweptTo (getD ws 6 0) (getD ws 7 0))
-swept-reads u ws = record { says = λ reg ok is. ap (λ (l : List ℕ). SweptTo (getD l 6 0) (getD l 7 0)) is }
+pending-read : (u : Usable) (reg : Register) (ws : List ℕ) → ws ≡ register-form u .enc reg → read-heading ws .pending ≡ reg .pending
+pending-read u reg ws is = ap (λ (l : List ℕ). read-heading l .pending) is ∙ flag-read (reg .pending)
 
-pub published-reads : (u : Usable) (ws : List ℕ) → RegisterReads u (λ reg. published u (reg .swept)) ws (getD ws 7 0)
-published-reads u ws = record { says = λ reg ok is. ap (λ (l : List ℕ). getD l 7 0) is }
+module _ (u : Usable) (ws : List ℕ) where
+  pub pending-reads : RegisterReads u (λ reg. reg .pending) ws (read-heading ws .pending)
+  pending-reads = record { says = λ reg ok is. pending-read u reg ws is }
 
-pub under-reads : (u : Usable) (stamp : ℕ) (ws : List ℕ)
-    → RegisterReads u (λ reg. under stamp (reg .floor)) ws (eqb (getD ws 8 0) 1 && leb stamp (getD ws 9 0))
-under-reads u stamp ws = record {
-  says = λ reg ok is. ap (λ (l : List ℕ). eqb (getD l 8 0) 1 && leb stamp (getD l 9 0)) is ∙ under-words stamp (reg .floor);
-}
+  pub floor-reads : RegisterReads u (λ reg. floor-answer (reg .floor)) ws (floor-answer (read-heading ws .floor))
+  floor-reads = record { says = λ reg ok is. ap floor-answer (floor-read u reg ws is) }
 
-pub floor-reads : (u : Usable) (ws : List ℕ) → getD ws 8 0 ≡ 1 → RegisterReads u (λ reg. floor-answer (reg .floor)) ws (FloorAt (getD ws 9 0))
-floor-reads u ws e = record {
-  says = λ reg ok is.
-      ap (λ (l : List ℕ). FloorAt (getD l 9 0)) is ∙ floor-there (reg .floor) (sym (ap (λ (l : List ℕ). getD l 8 0) is) ∙ e);
-}
+  pub under-reads : (stamp : ℕ) → RegisterReads u (λ reg. under stamp (reg .floor)) ws (under stamp (read-heading ws .floor))
+  under-reads stamp = record { says = λ reg ok is. ap (under stamp) (floor-read u reg ws is) }
 
-pub no-floor-reads : (u : Usable) (ws : List ℕ) → (getD ws 8 0 ≡ 1 → ⊥) → RegisterReads u (λ reg. floor-answer (reg .floor)) ws NoFloor
-no-floor-reads u ws n = record {
-  says = λ reg ok is. floor-missing (reg .floor) (λ e. n (ap (λ (l : List ℕ). getD l 8 0) is ∙ e));
-}
+  pub swept-reads : RegisterReads u (swept-answer u) ws (swept-in ws)
+  swept-reads = record { says = λ reg ok is. ap swept-in is }
 
--- ---- the floor raised, where it was read whether the stamp is under it
-module _ (stamp : ℕ) (ws : List ℕ) (u : Usable) (low : Bool) (reads : RegisterReads u (λ reg. under stamp (reg .floor)) ws low) where
-  pub raise-stays : low ≡ true → RegisterTurns u (raised stamp) silent ws ws (tt {0})
-  raise-stays t = record {
+  pub published-reads : RegisterReads u (λ reg. published u (reg .swept)) ws (published-in ws)
+  published-reads = record { says = λ reg ok is. ap published-in is }
+
+-- ---- the floor raised
+with-its : (u : Usable) (reg : Register) {f g : Option ℕ} → f ≡ g → register-form u .enc (with-floor f reg) ≡ register-form u .enc (with-floor g reg)
+with-its u reg e = ap (λ (f : Option ℕ). register-form u .enc (with-floor f reg)) e
+
+module _ (stamp : ℕ) (ws : List ℕ) where
+  pub raise-stays : under stamp (read-heading ws .floor) ≡ true → ws ≡ floor-raised stamp ws
+  unfolding floor-raised
+  raise-stays t = rw t
+
+  pub raise-moves : under stamp (read-heading ws .floor) ≡ false → floor-stored (some stamp) ws ≡ floor-raised stamp ws
+  unfolding floor-raised
+  raise-moves t = rw t
+
+  -- of a register's words: its floor is the higher of the two
+  pub raise-turns : (u : Usable) (after : List ℕ) → after ≡ floor-raised stamp ws → RegisterTurns u (raised stamp) silent ws after (tt {0})
+  raise-turns u after a = record {
     does = λ reg ok is.
-        (is ∙ ap (λ (f : Option ℕ). register-form u .enc (with-floor f reg)) (floor-stays stamp (reg .floor) (sym (reads .says reg ok is) ∙ t)), refl);
+        let e : under stamp (read-heading ws .floor) ≡ under stamp (reg .floor) = ap (under stamp) (floor-read u reg ws is) in
+        by-test (under stamp (read-heading ws .floor))
+        (λ t. (a ∙ sym (raise-stays t) ∙ is ∙ with-its u reg (floor-stays stamp (reg .floor) (sym e ∙ t)), refl))
+        (λ t. (a ∙ sym (raise-moves t) ∙ ap (floor-stored (some stamp)) is ∙ with-its u reg (floor-moves stamp (reg .floor) (sym e ∙ t)), refl));
   }
 
-  pub raise-moves : low ≡ false → RegisterTurns u (raised stamp) silent ws (set (set ws 8 1) 9 stamp) (tt {0})
-  raise-moves t = record {
-    does = λ reg ok is. (
-      ap (λ (l : List ℕ). set (set l 8 1) 9 stamp) is
-          ∙ ap (λ (f : Option ℕ). register-form u .enc (with-floor f reg)) (floor-moves stamp (reg .floor) (sym (reads .says reg ok is) ∙ t)),
-      refl,
-    );
-  }
+-- by what a drop forgot
+module _ (d : Dropped) (ws : List ℕ) where
+  pub by-nothing : d ≡ Nothing → ws ≡ floor-raised-by d ws
+  by-nothing e = rw e
 
-pub by-nothing : (d : Dropped) (ws : List ℕ) (u : Usable) → d ≡ Nothing → RegisterTurns u (raised-with d) silent ws ws (tt {0})
-by-nothing d ws u e = rw e (record { does = λ reg ok is. (is, refl) })
+  pub by-newest : (stamp : ℕ) (last : List ℕ) → d ≡ Newest stamp → last ≡ floor-raised stamp ws → last ≡ floor-raised-by d ws
+  by-newest stamp last e a = rw e a
 
-pub by-newest : (d : Dropped) (n : ℕ) (ws last : List ℕ) → d ≡ Newest n
-    → ((u : Usable) → RegisterTurns u (raised n) silent ws last (tt {0})) → (u : Usable) → RegisterTurns u (raised-with d) silent ws last (tt {0})
-by-newest d n ws last e t u = rw e (t u)
+pub by-turns : (d : Dropped) (ws : List ℕ) (u : Usable) (after : List ℕ) → after ≡ floor-raised-by d ws
+    → RegisterTurns u (raised-with d) silent ws after (tt {0})
+by-turns Nothing ws u after a = record { does = λ reg ok is. (a ∙ is, refl) }
+by-turns (Newest stamp) ws u after a = raise-turns stamp ws u after a
 
 -- ---- swept up to a bucket
-pub set-swept-turns : (u : Usable) (s p : ℕ) (ws : List ℕ) → p ≡ published u s → RegisterTurns u (swept-to s) silent ws (set (set ws 6 s) 7 p) (tt {0})
-set-swept-turns u s p ws e = rw e (record { does = λ reg ok is. (ap (λ (l : List ℕ). set (set l 6 s) 7 (published u s)) is, refl) })
+pub sweep-turns : (u : Usable) (s : ℕ) (ws after : List ℕ) → after ≡ sweep-stored u s ws → RegisterTurns u (swept-to s) silent ws after (tt {0})
+sweep-turns u s ws after a = record { does = λ reg ok is. (a ∙ ap (sweep-stored u s) is, refl) }
 
 -- ---- begin
 begin-idle : (number : ℕ) (reg : Register) → reg .pending ≡ false → reg ≡ begin number reg
@@ -108,20 +122,45 @@ begin-idle number reg e =
     sym (ap (λ (b : Bool).
     cond b (record { swept = reg .swept; floor = raise (reg .floor) number; pending = false; spare = reg .spare; rings = reg .rings }) reg) e)
 
--- where it was read whether the register is pending
-module _ (number : ℕ) (ws : List ℕ) (u : Usable) (waits : Bool) (reads : RegisterReads u (λ reg. reg .pending) ws waits) where
-  pub begin-already : waits ≡ false → RegisterTurns u (begin number) begin-says ws ws Already
-  begin-already n = record {
+module _ (number : ℕ) (ws : List ℕ) where
+  pub begin-already : read-heading ws .pending ≡ false → (ws ≡ begun-in number ws) × (Already ≡ begin-told ws)
+  begin-already n = (rw n, rw n)
+
+  pub begin-begun : (mid : List ℕ) → read-heading ws .pending ≡ true → mid ≡ floor-raised number ws
+      → (set mid pending-at 0 ≡ begun-in number ws) × (Begun ≡ begin-told ws)
+  begin-begun mid y m = (rw (y, m), rw y)
+
+  pub begin-turns : (u : Usable) (after : List ℕ) (r : Answer) → (after ≡ begun-in number ws) × (r ≡ begin-told ws)
+      → RegisterTurns u (begin number) begin-says ws after r
+  unfolding begin
+  begin-turns u after r a = record {
     does = λ reg ok is.
-        let e = sym (reads .says reg ok is) ∙ n in
-        (is ∙ ap (register-form u .enc) (begin-idle number reg e), ap (λ (b : Bool). cond b Begun Already) (sym e));
+        let e = pending-read u reg ws is in
+        let raised = raise-turns number ws u (floor-raised number ws) refl .does reg ok is .0 in
+        by-test (read-heading ws .pending)
+        (λ t.
+        let p : reg .pending ≡ true = sym e ∙ t in
+        (a .0 ∙ rw (t, p) (ap (λ (l : List ℕ). set l pending-at 0) raised), a .1 ∙ rw (t, p)))
+        (λ t.
+        let p : reg .pending ≡ false = sym e ∙ t in
+        (a .0 ∙ rw t (is ∙ ap (register-form u .enc) (begin-idle number reg p)), a .1 ∙ rw (t, p)));
   }
 
-  pub begin-begun : (mid : List ℕ) → waits ≡ true → RegisterTurns u (raised number) silent ws mid (tt {0})
-      → RegisterTurns u (begin number) begin-says ws (set mid 10 0) Begun
-  unfolding begin
-  begin-begun mid h t = record {
-    does = λ reg ok is.
-        let e = sym (reads .says reg ok is) ∙ h in
-        (rw e (ap (λ (l : List ℕ). set l 10 0) (t .does reg ok is .0)), rw e);
-  }
+-- ---- the floor forgotten, and raised to a dump's
+pub forget-turns : (ws : List ℕ) (u : Usable) → RegisterTurns u floor-gone silent ws (floor-stored none ws) (tt {0})
+forget-turns ws u = record { does = λ reg ok is. (ap (floor-stored none) is, refl) }
+
+module _ (n : ℕ) (ws : List ℕ) where
+  pub dumped-none : n ≡ 0 → ws ≡ floor-dumped n ws
+  dumped-none e = rw (eq-eqb n 0 e)
+
+  pub dumped-some : (last : List ℕ) → (n ≡ 0 → ⊥) → last ≡ floor-raised (n - 1) ws → last ≡ floor-dumped n ws
+  dumped-some last e a = rw (ne-eqb n 0 e) a
+
+  pub dumped-turns : (u : Usable) (after : List ℕ) → after ≡ floor-dumped n ws → RegisterTurns u (raised-to-dumped n) silent ws after (tt {0})
+  unfolding raised-to-dumped
+  dumped-turns u after a =
+      by-test (eqb n 0) (λ t. let e : after ≡ ws = rw t at a in record { does = λ reg ok is. (rw t (e ∙ is), refl) })
+      (λ t.
+      let raised = raise-turns (n - 1) ws u after (rw t at a) in
+      record { does = λ reg ok is. (rw t (raised .does reg ok is .0), refl) })

@@ -6,11 +6,14 @@ use model::Bucket;
 use model::Class;
 use model::Usable;
 use numbers::layout;
+ghost use mathlib.Core.Path.{_≡_};
+ghost use mathlib.Core.Option.{none};
 ghost use Prim.Native.Nat.{_≤_};
 ghost use lib.ListN.{length};
 ghost use Rattle.runs.specs.Turns.{silent};
 ghost use Rattle.model.specs.declared.Usable.{Usable};
 ghost use Rattle.model.specs.Dump.{raised-to-dumped};
+ghost use Rattle.register.specs.Heading.{floor-stored, floor-dumped};
 ghost use Rattle.register.specs.Rules.{failed-at, floor-gone};
 ghost use Rattle.register.specs.Words.{RegisterWords, RegisterTurns};
 
@@ -29,6 +32,7 @@ pub fn fail(part: &mut [u64], u: Usable, class: Class, bucket: Bucket, newest: u
 // Forgets the floor.
 pub fn forget_floor(part: &mut [u64])
     requires { ⌜ 24 ≤ length (now part) ⌝ }
+    ensures { λ _. ⌜ now (part .exit) ≡ floor-stored none (now (part .entry)) ⌝ }
     ensures { λ _. ⌜ ((u : Usable) → RegisterTurns u floor-gone silent (now (part .entry)) (now (part .exit)) (tt {0})) ⌝ }
 {
     part[layout::HAS_FLOOR] = 0;
@@ -38,6 +42,7 @@ pub fn forget_floor(part: &mut [u64])
 // Raises the floor to a dump's: 0 is none, and otherwise the floor and 1.
 pub fn raise_to_dumped(part: &mut [u64], floor: u64)
     requires { ⌜ 24 ≤ length (now part) ⌝ }
+    ensures { λ _. ⌜ now (part .exit) ≡ floor-dumped floor (now (part .entry)) ⌝ }
     ensures { λ _. ⌜ ((u : Usable) → RegisterTurns u (raised-to-dumped floor) silent (now (part .entry)) (now (part .exit)) (tt {0})) ⌝ }
 {
     if floor == 0 {

@@ -1,7 +1,7 @@
 -- What a call enters with, from what its settings and words were found to be.
 use Prim.Native.Nat.{ℕ, _+_, _<_, _≤_}
 use native.Mathlib.Omega.{arith}
-use mathlib.Core.Path.{_≡_, sym, _∙_, ap, subst}
+use mathlib.Core.Path.{_≡_, refl, sym, _∙_, ap, subst}
 use mathlib.Core.Bool.{Bool, true, false, not}
 use mathlib.Core.List.{List}
 use lib.ListN.{length}
@@ -12,7 +12,7 @@ use Rattle.model.specs.declared.Settings.{Settings}
 use Rattle.model.specs.declared.Usable.{Usable}
 use Rattle.model.specs.declared.Class.{Class}
 use Rattle.model.specs.declared.Shares.{Shares}
-use Rattle.model.specs.Settings.{settings-of, settings-fit, shares-fit, words-needed}
+use Rattle.model.specs.Settings.{settings-of, no-usable, settings-fit, shares-fit, words-needed}
 use Rattle.model.specs.Words.{class-start, class-width}
 use Rattle.model.specs.Most.{words-most}
 use Rattle.model.proofs.Bounds.{fit-shares}
@@ -32,7 +32,7 @@ shut-unlisted {st} {ws} {codes} t sh = record { enters = shut-out sh (codes-unli
 
 pub vetted-listed : {st ws : List ℕ} {codes : Bool} {e : Entry} → not codes ≡ false → EntersWithin st ws (vetted st ws) e → ByBook st ws codes e
 vetted-listed {st} {ws} {codes} t n =
-    record { enters = record { refusal = n .refusal ∙ codes-listed st ws codes (not-false codes t); ready = n .ready; within = n .within } }
+    record { enters = record { refusal = n .refusal ∙ codes-listed st ws codes (not-false codes t); ready = n .ready; none = n .none; within = n .within } }
 
 -- ---- and 4
 module _ {st ws : List ℕ} {codes : Bool} {e : Entry} (by : ByBook st ws codes e) {r : ℕ} {x : Entry} where
@@ -56,7 +56,7 @@ admitted {st} {ws} {codes} by {r} z read l =
     let n = by .enters in
     let k = subst (λ (s : Settings). r < s .registers) read l in
     record {
-      enters = record { refusal = z ∙ all-passed st ws codes r (sym (n .refusal) ∙ z) (lt-leb _ _ k); ready = n .ready; within = n .within };
+      enters = record { refusal = z ∙ all-passed st ws codes r (sym (n .refusal) ∙ z) (lt-leb _ _ k); ready = n .ready; none = n .none; within = n .within };
       there = λ y. k;
     }
 
@@ -75,8 +75,15 @@ pub register-settings : {st ws : List ℕ} {codes : Bool} {r : ℕ} {e : Entry} 
 register-settings by z = long-settings (by .enters) z
 
 module _ {st ws : List ℕ} {codes : Bool} {r : ℕ} {e : Entry} (by : ByRegister st ws codes r e) where
-  pub no-span : (e .refusal ≡ 0 → ⊥) → (u : Usable) → AtRegister st ws codes r (record { refusal = e .refusal; u = u; start = 0; end = 0 })
-  no-span h u = record { refusal = by .enters .refusal; place = λ z. absurd (h z); order = omega arith; within = omega arith; few = omega arith }
+  pub no-span : (e .refusal ≡ 0 → ⊥) → {u : Usable} → u ≡ no-usable → AtRegister st ws codes r (record { refusal = e .refusal; u = u; start = 0; end = 0 })
+  no-span h n = record {
+    refusal = by .enters .refusal;
+    none = λ z. record { usable = n; start = refl; end = refl };
+    place = λ z. absurd (h z);
+    order = omega arith;
+    within = omega arith;
+    few = omega arith;
+  }
 
   pub settings-in : e .refusal ≡ 0 → {s : Settings} → s ≡ settings-of st → settings-fit s ≡ true
   settings-in z read = fits-read (by .enters) z read
@@ -93,6 +100,7 @@ module _ {st ws : List ℕ} {codes : Bool} {r : ℕ} {e : Entry} (by : ByRegiste
       let i = q .within in
       record {
         refusal = sym z ∙ by .enters .refusal;
+        none = λ h. absurd (h refl);
         place = λ y. q;
         order = let d = q .end in omega arith;
         within = omega arith;
@@ -101,8 +109,18 @@ module _ {st ws : List ℕ} {codes : Bool} {r : ℕ} {e : Entry} (by : ByRegiste
 
 -- ---- where a class lies
 module _ {st ws : List ℕ} {codes : Bool} {e : Entry} (by : ByBook st ws codes e) where
-  pub no-class : (e .refusal ≡ 0 → ⊥) → (b : Shares) (c : Class) → AtClass st ws codes c (record { refusal = e .refusal; shares = b; start = 0; end = 0 })
-  no-class h b c = record { refusal = by .enters .refusal; place = λ z. absurd (h z); order = omega arith; within = omega arith; few = omega arith }
+  abbrev no-shares : Shares
+  no-shares = record { places = 0; pairs = 0; feeder = 0; peer = 0 }
+
+  pub no-class : (e .refusal ≡ 0 → ⊥) → (c : Class) → AtClass st ws codes c (record { refusal = e .refusal; shares = no-shares; start = 0; end = 0 })
+  no-class h c = record {
+    refusal = by .enters .refusal;
+    none = λ z. record { shares = refl; start = refl; end = refl };
+    place = λ z. absurd (h z);
+    order = omega arith;
+    within = omega arith;
+    few = omega arith;
+  }
 
   module _ (z : e .refusal ≡ 0) {s : Settings} (read : s ≡ settings-of st) where
     pub settings-within : settings-fit s ≡ true
@@ -126,6 +144,7 @@ module _ {st ws : List ℕ} {codes : Bool} {e : Entry} (by : ByBook st ws codes 
           let d : w ≡ class-width (settings-of st .shares) = rw read at wide in
           record {
             refusal = sym z ∙ by .enters .refusal;
+            none = λ h. absurd (h refl);
             place = λ y. record { shares = rw read; start = rw read at from; end = ap (λ (x : ℕ). a + x) d };
             order = omega arith;
             within = omega arith;

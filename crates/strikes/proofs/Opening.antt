@@ -33,6 +33,7 @@ shut-opening : {st limits starts : List ℕ} {n v : ℕ} {x : Entry} → Shut v 
 shut-opening sh v h = record {
   refusal = sh .refusal ∙ v;
   ready = λ z. absurd (h (sym (sh .refusal) ∙ z));
+  none = λ h. sh .none;
   within = let k = sh .none in omega arith;
 }
 
@@ -71,6 +72,7 @@ module _ {st : List ℕ} {e : Entry} (enters : Enters st (unfit-alone st) e) (li
           record {
             refusal = z ∙ rw (r .fit, sym all-listed ∙ not-false (a && b) t, le-ltb n (words-needed (settings-of st)) (omega arith));
             ready = enters .ready;
+            none = enters .none;
             within = l;
           }
 

@@ -5,7 +5,7 @@ use mathlib.Core.Bool.{Bool, _&&_}
 use mathlib.Core.List.{List}
 use lib.ListN.{length}
 use Rattle.model.specs.declared.Class.{Class}
-use Rattle.model.specs.Settings.{settings-of}
+use Rattle.model.specs.Settings.{settings-of, no-usable}
 use Rattle.model.specs.Class.{deliverer-fits}
 use Rattle.model.specs.Codes.{flag-fits}
 use Rattle.model.specs.Words.{class-start, class-width}
@@ -31,18 +31,30 @@ pub record ByRegister (st ws : List ℕ) (codes : Bool) (r : ℕ) (e : Entry) : 
 pub record ByOpening (st limits starts : List ℕ) (n : ℕ) (e : Entry) : Type 0 where
   pub refusal : e .refusal ≡ opens st limits starts n
   pub ready : e .refusal ≡ 0 → Ready st e
+  pub none : (e .refusal ≡ 0 → ⊥) → e .need ≡ 0
   pub within : e .need ≤ n
 
--- a register's part
+-- a register's part, or none where the call is refused
+pub record NoRegister (p : RegisterEntry) : Type 0 where
+  pub usable : p .u ≡ no-usable
+  pub start : p .start ≡ 0
+  pub end : p .end ≡ 0
+
 pub record AtRegister (st ws : List ℕ) (codes : Bool) (r : ℕ) (p : RegisterEntry) : Type 0 where
   pub refusal : p .refusal ≡ admits st ws codes r
+  pub none : (p .refusal ≡ 0 → ⊥) → NoRegister p
   pub place : p .refusal ≡ 0 → RegisterAt (settings-of st) r (record { u = p .u; start = p .start; end = p .end })
   pub order : p .start ≤ p .end
   pub within : p .end ≤ length ws
   -- few words, whatever the settings in bounds
   pub few : p .end ≤ words-most
 
--- a class's part
+-- a class's part, or none where the call is refused
+pub record NoClass (p : ClassEntry) : Type 0 where
+  pub shares : p .shares ≡ record { places = 0; pairs = 0; feeder = 0; peer = 0 }
+  pub start : p .start ≡ 0
+  pub end : p .end ≡ 0
+
 pub record ClassAt (st : List ℕ) (c : Class) (p : ClassEntry) : Type 0 where
   pub shares : p .shares ≡ settings-of st .shares
   pub start : p .start ≡ class-start (settings-of st) c
@@ -50,6 +62,7 @@ pub record ClassAt (st : List ℕ) (c : Class) (p : ClassEntry) : Type 0 where
 
 pub record AtClass (st ws : List ℕ) (codes : Bool) (c : Class) (p : ClassEntry) : Type 0 where
   pub refusal : p .refusal ≡ vets st ws codes
+  pub none : (p .refusal ≡ 0 → ⊥) → NoClass p
   pub place : p .refusal ≡ 0 → ClassAt st c p
   pub order : p .start ≤ p .end
   pub within : p .end ≤ length ws

@@ -23,7 +23,7 @@ one-there n k xs old h = sym (getD-take n xs k old h)
 
 -- ---- one answer, by the numbers made of it
 pub as-sent : {a b : Answer} {s t : Sent} → a ≡ b → s ≡ t → SentAs b t → SentAs a s
-as-sent p q h = record { number = rw (p, q) (h .number); values = rw (p, q) (h .values) }
+as-sent p q h = record { number = rw (p, q) (h .number); values = rw (p, q) (h .values); few = rw q (h .few); rest = rw q (h .rest) }
 
 -- ---- the out numbers, by the values made of the answer
 abbrev pub outs : ℕ → List ℕ → List ℕ → List ℕ

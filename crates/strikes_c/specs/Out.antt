@@ -1,9 +1,9 @@
 -- What an entry point lets out: the number that it returns, the out numbers, and the words.
-use Prim.Native.Nat.{ℕ, suc}
+use Prim.Native.Nat.{ℕ, suc, _-_, _≤_}
 use mathlib.Core.Path.{_≡_}
 use mathlib.Core.Bool.{cond}
-use mathlib.Core.List.{List, [], _∷_}
-use lib.ListN.{getD, take}
+use mathlib.Core.List.{List, [], _∷_, _++_}
+use lib.ListN.{getD, take, replicate}
 use Rattle.model.specs.declared.Answer.{Answer}
 use Rattle.model.specs.Settings.{settings-of, words-needed}
 use Rattle.model.specs.Codes.{answer-number, answer-values}
@@ -43,6 +43,9 @@ values-of s = take (s .count) (s .first ∷ s .second ∷ s .third ∷ s .fourth
 pub record SentAs (a : Answer) (s : Sent) : Type 0 where
   pub number : s .status ≡ answer-number a
   pub values : values-of s ≡ answer-values a
+  -- at most four, and those past the count are 0
+  pub few : s .count ≤ 4
+  pub rest : s .first ∷ s .second ∷ s .third ∷ s .fourth ∷ [] ≡ values-of s ++ replicate (4 - s .count) 0
 
 -- ---- the words that settings need: 1 where they are unfit, and then the out number keeps what it held
 abbrev pub needed-status : List ℕ → ℕ

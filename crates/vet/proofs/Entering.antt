@@ -1,7 +1,7 @@
 -- The refusals 1, 2 and 3 as vetting tries them, what settings that pass give, and that every well-formed state is let in.
 use Prim.Native.Nat.{ℕ, _≤_, _<_}
 use native.Mathlib.Omega.{arith}
-use mathlib.Core.Path.{_≡_, sym, _∙_}
+use mathlib.Core.Path.{_≡_, refl, sym, _∙_}
 use mathlib.Core.Bool.{Bool, true, false}
 use mathlib.Core.List.{List, _++_}
 use lib.ListN.{length}
@@ -30,6 +30,7 @@ module _ {st : List ℕ} where
   shut-alone v sh = record {
     refusal = sh .refusal ∙ v;
     ready = λ z. let k : _≡_ {A = ℕ} 1 0 = sym (sh .refusal) ∙ z in absurd (omega arith);
+    none = λ h. sh .none;
   }
 
   pub other-width : {e : Entry} → (length st ≡ 29 → ⊥) → Shut 1 e → Enters st (unfit-alone st) e
@@ -46,6 +47,7 @@ module _ {st : List ℕ} where
     in-bounds f e = record {
       refusal = rw (eq-eqb _ _ w, ← same, ← t, f);
       ready = λ z. record { fit = rw (eq-eqb _ _ w, ← same, ← t, f); need = e ∙ rw same };
+      none = λ h. absurd (h refl);
     }
 
 -- ---- and the words
@@ -54,6 +56,7 @@ pub shut-out : {st ws : List ℕ} {n v : ℕ} {e : Entry} → Shut n e → n ≡
 shut-out sh v h = record {
   refusal = sh .refusal ∙ v;
   ready = λ z. absurd (h (sym (sh .refusal) ∙ z));
+  none = λ h. sh .none;
   within = let k = sh .none in omega arith;
 }
 
@@ -104,6 +107,7 @@ sound-words {st} enters z {ws} l read t f =
     record {
       refusal = z ∙ rw (r .fit, le-ltb (length ws) (words-needed (settings-of st)) (omega arith), u);
       ready = enters .ready;
+      none = enters .none;
       within = l;
     }
 

@@ -90,7 +90,9 @@ remove-requires c κs =
     let place-width = c .before .before .before .before .before .before .before .before .place-width in
     let place-start = c .before .before .before .before .before .before .before .place-start in
     let if1 = c .before .before .before .before .before .if1 in
-    remove-asks (s .shares) (s .who) (s .part .now) (s .spot) (l .found) (l .yes) (if1 .left) _ _ (place-start .ensures .0) (ends-at _ (place-width .ensures .0))
+    let count = c .before .before .count in
+    remove-asks (s .shares) (s .who) (s .part .now) (s .spot) (l .found) (l .yes) (if1 .left) _ _ (place-start .ensures .0) (ends-at _ (place-width .ensures .0)) _
+    (count .ensures) (c .before .if2 .taken)
 
 same-length-2 : tie.Need-same-length-2
 same-length-2 c = search needs

@@ -22,9 +22,9 @@ same-length-2 c = search needs
 
 returns : tie.Need-returns
 returns c =
-    let copy-words = c .before .before .before .before .before .before .before .before .before .before .before .copy-words in
-    let sort = c .before .before .before .before .before .before .sort in
-    c .neighbours-differ .ensures ∙ told _ _ (sort .ensures) ∙ ap distinct (copy-words .ensures)
+    let copied = c .before .before .before .before .before .before .before .before .before .before .before .copy-words .ensures in
+    let sorts = c .before .before .before .before .before .before .sort .ensures in
+    (c .neighbours-differ .ensures ∙ told _ _ (sorts .0) ∙ ap distinct copied, (rw copied at (sorts .0), rw copied at (sorts .1)))
 
 pub distinct-through-spec : {M : Type 1} → statement M
 distinct-through-spec =

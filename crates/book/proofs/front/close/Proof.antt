@@ -1,3 +1,4 @@
+use mathlib.Core.Path.{refl}
 use Rattle.book.proofs.Judging.{shuts}
 use borrow.Author.Needs.{needs}
 use Rattle.book.proofs.front.close.Statement.{statement}
@@ -10,7 +11,7 @@ same-length : tie.Need-same-length
 same-length c = search needs
 
 returns : tie.Need-returns
-returns c = λ s. shuts _ s
+returns c = (refl, λ s. shuts _ s)
 
 pub close-spec : {M : Type 1} → statement M
 close-spec = tie.close (tie.spec slice-write-front same-length returns)

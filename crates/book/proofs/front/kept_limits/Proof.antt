@@ -1,4 +1,4 @@
-use Rattle.book.proofs.Judging.{reads-limits}
+use Rattle.book.proofs.Judging.{reads-limits, limits-read}
 use borrow.Author.Needs.{needs}
 use Rattle.book.proofs.front.kept_limits.Statement.{statement}
 use Rattle.book.proofs.front.kept_limits.Tie as tie
@@ -19,7 +19,10 @@ shared-slice-read-t11 : tie.Need-shared-slice-read-t11
 shared-slice-read-t11 c = search needs
 
 returns : tie.Need-returns
-returns c = λ s. reads-limits _ s
+returns c =
+    let ws = c .before .before .before .before .before .args .front .now in
+    let e = limits-read ws in
+    (e, λ s. rw e (reads-limits ws s))
 
 pub kept-limits-spec : {M : Type 1} → statement M
 kept-limits-spec =

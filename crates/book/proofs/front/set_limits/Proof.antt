@@ -1,3 +1,4 @@
+use mathlib.Core.Path.{refl}
 use Rattle.book.proofs.Judging.{sets-limits}
 use borrow.Author.Needs.{needs}
 use lib.ListN.{length-set}
@@ -24,7 +25,7 @@ same-length : tie.Need-same-length
 same-length c = search needs
 
 returns : tie.Need-returns
-returns c = λ s. sets-limits (c .args .limits) _ s
+returns c = (refl, λ s. sets-limits _ s (c .args .limits))
 
 pub set-limits-spec : {M : Type 1} → statement M
 set-limits-spec =

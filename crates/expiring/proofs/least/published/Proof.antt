@@ -26,7 +26,7 @@ returns : tie.Need-returns
 returns c =
     let s = c .before .before .before .before in
     let register-extent = c .before .before .register-extent in
-    published-reads (s .args .s) (s .args .r) (s .pre .1) _ (register-extent .ensures) (s .args .run .now) _ (c .published-sweep .ensures)
+    published-reads (s .args .s) (s .args .r) (s .pre .1) _ (register-extent .ensures) (s .args .run .now) _ (c .published-sweep .ensures .1)
 
 pub published-spec : {M : Type 1} → statement M
 published-spec = tie.close (tie.spec register-extent-requires mul-published-sweep sub-published-sweep part-published-sweep-start part-published-sweep-end published-sweep-requires returns)

@@ -34,7 +34,7 @@ returns c =
     let raise-floor = c .before .before .raise-floor in
     let s = d .before .before .before .before in
     let t = fail-turns (s .args .u) (s .args .class) (s .args .bucket .0) (s .args .newest) _ _ _ _
-    (ring-turns _ _ _ (d .before .before .ring-extent .ensures) (d .drop-bucket .ensures .1)) (raise-floor .ensures (s .args .u)) in
+    (ring-turns _ _ _ (d .before .before .ring-extent .ensures) (d .drop-bucket .ensures .1)) (raise-floor .ensures .1 (s .args .u)) in
     (fail-words (s .args .u) (s .args .class) (s .args .bucket .0) (s .args .newest) _ _ t (s .pre), t)
 
 pub fail-spec : {M : Type 1} → statement M

@@ -1,4 +1,5 @@
-use Rattle.register.proofs.Forgets.{forget-turns}
+use Rattle.register.proofs.HeadWords.{forget-turns}
+use mathlib.Core.Path.{refl}
 use lib.ListN.{length-set}
 use native.Mathlib.Omega.{arith}
 use borrow.Author.Needs.{needs}
@@ -15,7 +16,7 @@ same-length : tie.Need-same-length
 same-length c = search needs
 
 returns : tie.Need-returns
-returns c = λ u. forget-turns _ u
+returns c = (refl, λ u. forget-turns _ u)
 
 pub forget-floor-spec : {M : Type 1} → statement M
 forget-floor-spec = tie.close (tie.spec slice-write-part slice-write-part-2 same-length returns)

@@ -1,4 +1,4 @@
-use Rattle.register.proofs.HeadWords.{by-nothing, by-newest}
+use Rattle.register.proofs.HeadWords.{by-nothing, by-newest, by-turns}
 use borrow.Author.Needs.{needs}
 use Rattle.register.proofs.heading.raise_by.Statement.{statement}
 use Rattle.register.proofs.heading.raise_by.Tie as tie
@@ -13,13 +13,20 @@ raise-floor-requires : tie.Need-raise-floor-requires
 raise-floor-requires c κs = search needs
 
 returns : tie.Need-returns
-returns c = λ u. by-nothing _ _ u (c .enum-told .given .1)
+returns c =
+    let a = c .before .before .before .args in
+    let e = by-nothing (a .went) (a .part .now) (c .enum-told .given .1) in
+    (e, λ u. by-turns (a .went) (a .part .now) u _ e)
 
 same-length : tie.Need-same-length
 same-length c = search needs
 
 returns-2 : tie.Need-returns-2
-returns-2 c = by-newest _ _ _ _ (c .before .before .before .before .before .went .given .1) (c .before .before .raise-floor .ensures)
+returns-2 c =
+    let a = c .before .before .before .before .before .before .before .before .args in
+    let newest = c .before .before .before .before .before .went .given .1 in
+    let e = by-newest (a .went) (a .part .now) _ _ newest (c .before .before .raise-floor .ensures .0) in
+    (e, λ u. by-turns (a .went) (a .part .now) u _ e)
 
 pub raise-by-spec : {M : Type 1} → statement M
 raise-by-spec =

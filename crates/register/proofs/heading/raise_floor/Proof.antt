@@ -1,7 +1,8 @@
+use mathlib.Core.Path.{sym, _∙_}
 use lib.ListN.{length-set}
 use native.Mathlib.Omega.{arith}
 use borrow.Author.Needs.{needs}
-use Rattle.register.proofs.HeadWords.{raise-stays, raise-moves}
+use Rattle.register.proofs.HeadWords.{raise-stays, raise-moves, raise-turns}
 use Rattle.register.proofs.heading.raise_floor.Statement.{statement}
 use Rattle.register.proofs.heading.raise_floor.Tie as tie
 
@@ -12,7 +13,10 @@ same-length : tie.Need-same-length
 same-length c = search needs
 
 returns : tie.Need-returns
-returns c = λ u. raise-stays _ _ u _ (c .before .is-under .ensures u) (c .if1 .taken)
+returns c =
+    let a = c .before .before .before .before .args in
+    let e = raise-stays (a .stamp) (a .part .now) (sym (c .before .is-under .ensures .0) ∙ c .if1 .taken) in
+    (e, λ u. raise-turns (a .stamp) (a .part .now) u _ e)
 
 slice-write-part : tie.Need-slice-write-part
 slice-write-part c = search needs
@@ -24,7 +28,10 @@ same-length-2 : tie.Need-same-length-2
 same-length-2 c = search needs
 
 returns-2 : tie.Need-returns-2
-returns-2 c = λ u. raise-moves _ _ u _ (c .before .is-under .ensures u) (c .if1 .left)
+returns-2 c =
+    let a = c .before .before .before .before .args in
+    let e = raise-moves (a .stamp) (a .part .now) (sym (c .before .is-under .ensures .0) ∙ c .if1 .left) in
+    (e, λ u. raise-turns (a .stamp) (a .part .now) u _ e)
 
 pub raise-floor-spec : {M : Type 1} → statement M
 raise-floor-spec =

@@ -1,6 +1,9 @@
-use lib.ListN.{length-set}
+use Prim.Native.Nat.{ℕ}
+use mathlib.Core.Path.{ap}
+use lib.ListN.{set, length-set}
+use Rattle.numbers.specs.Layout.{swept-at, published-at}
 use native.Mathlib.Omega.{arith}
-use Rattle.register.proofs.HeadWords.{set-swept-turns}
+use Rattle.register.proofs.HeadWords.{sweep-turns}
 use borrow.Author.Needs.{needs}
 use Rattle.register.proofs.heading.set_swept.Statement.{statement}
 use Rattle.register.proofs.heading.set_swept.Tie as tie
@@ -18,7 +21,10 @@ same-length : tie.Need-same-length
 same-length c = search needs
 
 returns : tie.Need-returns
-returns c = set-swept-turns (c .before .before .args .u) _ _ (c .before .before .args .part .now) (c .published .ensures)
+returns c =
+    let a = c .before .before .args in
+    let e = ap (λ (p : ℕ). set (set (a .part .now) swept-at (a .swept .0)) published-at p) (c .published .ensures) in
+    (e, sweep-turns (a .u) (a .swept .0) (a .part .now) _ e)
 
 pub set-swept-spec : {M : Type 1} → statement M
 set-swept-spec =

@@ -14,7 +14,7 @@ returns : tie.Need-returns
 returns c =
     let s = c .before .before .before .before .before in
     let is-pending = c .before .before .is-pending in
-    let t = unjudged-turns (s .args .u) (asked-by (s .args .ask)) _ _ (is-pending .ensures (s .args .u)) (c .if1 .taken) in
+    let t = unjudged-turns (s .args .u) (asked-by (s .args .ask)) _ _ (is-pending .ensures .1 (s .args .u)) (c .if1 .taken) in
     (judged-words (s .args .u) (asked-by (s .args .ask)) _ _ _ t (s .pre), t)
 
 sweep-requires : tie.Need-sweep-requires
@@ -31,7 +31,7 @@ returns-2 c =
     let w = c .before .before .before .before in
     let d = w .before .before .before .before in
     let s = d .before .before .before in
-    let t = judged-turns (s .args .u) (asked-by (s .args .ask)) _ _ (d .is-pending .ensures (s .args .u)) _ _ (w .before .before .if1 .left) (w .sweep .ensures .1) (c .verdict .ensures) in
+    let t = judged-turns (s .args .u) (asked-by (s .args .ask)) _ _ (d .is-pending .ensures .1 (s .args .u)) _ _ (w .before .before .if1 .left) (w .sweep .ensures .1) (c .verdict .ensures) in
     (w .sweep .ensures .0, t)
 
 pub judge-spec : {M : Type 1} → statement M

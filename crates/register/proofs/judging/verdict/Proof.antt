@@ -35,7 +35,7 @@ returns-2 c =
     let h = w .before .before .before in
     let s = h .before .before .before .before in
     late-reads (s .args .u) (asked-by (s .args .ask)) _ _ _ (h .before .before .bucket-of .ensures) (h .before .as-read .ensures) _ (h .holds-any-class .ensures) _ _
-    (w .before .before .is-under .ensures (s .args .u)) _ (w .before .window-for .ensures) (w .in-window .ensures) (c .before .if1 .left) (c .if2 .taken)
+    (w .before .before .is-under .ensures .1 (s .args .u)) _ (w .before .window-for .ensures) (w .in-window .ensures) (c .before .if1 .left) (c .if2 .taken)
 
 returns-3 : tie.Need-returns-3
 returns-3 c =
@@ -43,7 +43,7 @@ returns-3 c =
     let h = w .before .before .before in
     let s = h .before .before .before .before in
     new-reads (s .args .u) (asked-by (s .args .ask)) _ _ _ (h .before .before .bucket-of .ensures) (h .before .as-read .ensures) _ (h .holds-any-class .ensures) _ _
-    (w .before .before .is-under .ensures (s .args .u)) _ (w .before .window-for .ensures) (w .in-window .ensures) (c .before .if1 .left) (c .if2 .left)
+    (w .before .before .is-under .ensures .1 (s .args .u)) _ (w .before .window-for .ensures) (w .in-window .ensures) (c .before .if1 .left) (c .if2 .left)
 
 pub verdict-spec : {M : Type 1} → statement M
 verdict-spec =

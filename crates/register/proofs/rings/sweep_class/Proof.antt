@@ -34,7 +34,7 @@ returns c =
     let raise-by = c .before .before .raise-by in
     let s = d .before .before .before .before in
     let t = class-turns (s .args .u) (s .args .class) (s .args .from .0) (s .args .through .0) _ _ _ _
-    (ring-turns _ _ _ (d .before .before .extent-in .ensures) (d .sweep .ensures .1)) (raise-by .ensures (s .args .u)) in
+    (ring-turns _ _ _ (d .before .before .extent-in .ensures) (d .sweep .ensures .1)) (raise-by .ensures .1 (s .args .u)) in
     (class-words (s .args .u) (s .args .class) (s .args .from .0) (s .args .through .0) _ _ t (s .pre .0), t)
 
 pub sweep-class-spec : {M : Type 1} → statement M

@@ -12,7 +12,7 @@ same-length c = search needs
 returns : tie.Need-returns
 returns c =
     let s = c .before .before .before .before in
-    let t = sweep-idle (s .args .u) (s .args .reading .0) _ _ (c .before .is-pending .ensures (s .args .u)) (c .if1 .taken) in
+    let t = sweep-idle (s .args .u) (s .args .reading .0) _ _ (c .before .is-pending .ensures .1 (s .args .u)) (c .if1 .taken) in
     (swept-words (s .args .u) (s .args .reading .0) _ _ t (s .pre), t)
 
 through-of-requires : tie.Need-through-of-requires
@@ -28,7 +28,7 @@ returns-2 : tie.Need-returns-2
 returns-2 c =
     let d = c .before .before .before .before in
     let s = d .before .before .before .before .before in
-    let t = sweep-same (s .args .u) (s .args .reading .0) (s .args .part .now) _ _ (d .before .before .is-pending .ensures (s .args .u)) (d .before .if1 .left)
+    let t = sweep-same (s .args .u) (s .args .reading .0) (s .args .part .now) _ _ (d .before .before .is-pending .ensures .1 (s .args .u)) (d .before .if1 .left)
     (d .through-of .ensures) (c .if2 .taken) in
     (swept-words (s .args .u) (s .args .reading .0) _ _ t (s .pre), t)
 
@@ -44,8 +44,8 @@ returns-3 c =
     let if3 = c .before .before .before .before .if3 in
     let set-swept = c .before .before .set-swept in
     let s = d .before .before .before .before .before in
-    let t = sweep-back (s .args .u) (s .args .reading .0) (s .args .part .now) _ _ _ (d .before .before .is-pending .ensures (s .args .u)) (d .before .if1 .left)
-    (d .through-of .ensures) (if3 .taken) (set-swept .ensures) in
+    let t = sweep-back (s .args .u) (s .args .reading .0) (s .args .part .now) _ _ _ (d .before .before .is-pending .ensures .1 (s .args .u)) (d .before .if1 .left)
+    (d .through-of .ensures) (if3 .taken) (set-swept .ensures .1) in
     (swept-words (s .args .u) (s .args .reading .0) _ _ t (s .pre), t)
 
 rings-of-requires : tie.Need-rings-of-requires
@@ -66,7 +66,7 @@ returns-4 c =
     let k = c .before .before .before .before in
     let sweep-rings = c .before .before .sweep-rings in
     let s = d .before .before .before .before .before in
-    let t = sweep-on (s .args .u) (s .args .reading .0) (s .args .part .now) _ _ _ _ (d .before .before .is-pending .ensures (s .args .u)) (d .before .if1 .left)
+    let t = sweep-on (s .args .u) (s .args .reading .0) (s .args .part .now) _ _ _ _ (d .before .before .is-pending .ensures .1 (s .args .u)) (d .before .if1 .left)
     (d .through-of .ensures) (k .before .before .if3 .left) (rw (← k .before .rings-of .ensures .ring) (k .sweep-from .ensures)) (sweep-rings .ensures) in
     (swept-words (s .args .u) (s .args .reading .0) _ _ t (s .pre), t)
 

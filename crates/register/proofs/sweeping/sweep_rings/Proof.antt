@@ -26,7 +26,7 @@ returns c =
     let w = z .before .before .before .before in
     let s = w .before .before .before in
     rings-turns (s .args .u) (s .args .from .0) (s .args .through .0) _ _ _ _ _ (w .sweep-class .ensures .1) (z .sweep-class2 .ensures .1) (y .sweep-class3 .ensures .1)
-    (x .set-swept .ensures)
+    (x .set-swept .ensures .1)
 
 pub sweep-rings-spec : {M : Type 1} → statement M
 sweep-rings-spec =

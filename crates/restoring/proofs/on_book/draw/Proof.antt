@@ -61,7 +61,7 @@ take-requires c κs =
       share-asks (s .args .s) (s .args .r) (s .pre .0 .1) (s .args .h) (s .args .run .now) (s .pre .0 .0) _ _ (class-start .ensures .0)
           (ap (λ (n : ℕ). class-start .result + n) (c .before .class-width .ensures .0)),
       limits-are-fit (s .args .s) (s .args .run .now) (s .pre .0 .0) _ _
-          (kept-limits .ensures (s .args .s)) (is-closed .ensures (s .args .s)),
+          (kept-limits .ensures .1 (s .args .s)) (is-closed .ensures .1 (s .args .s)),
     )
 
 is-granted-requires : tie.Need-is-granted-requires
@@ -79,7 +79,7 @@ returns c =
     let class-width = c .before .before .before .before .before .class-width in
     let take = c .before .before .before .take in
     draw-acts (s .args .s) (s .args .r) (s .pre .0 .1) (s .args .h) (s .args .run .now) (s .pre .0 .0) _ _ (class-start .ensures .0)
-    (ap (λ (n : ℕ). class-start .result + n) (class-width .ensures .0)) _ _ (kept-limits .ensures (s .args .s)) (is-closed .ensures (s .args .s)) (s .pre .1) _ _ _
+    (ap (λ (n : ℕ). class-start .result + n) (class-width .ensures .0)) _ _ (kept-limits .ensures .1 (s .args .s)) (is-closed .ensures .1 (s .args .s)) (s .pre .1) _ _ _
     (take .ensures) (c .is-granted .ensures)
 
 pub draw-spec : {M : Type 1} → statement M

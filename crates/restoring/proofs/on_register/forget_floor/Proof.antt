@@ -25,7 +25,7 @@ returns : tie.Need-returns
 returns c =
     let s = c .before .before .before .before .before in
     let forget-floor = c .before .before .forget-floor in
-    forget-acts (s .args .s) (s .args .r) (s .pre .1 .below) _ (s .pre .1) (s .args .run .now) _ (s .pre .0) (forget-floor .ensures)
+    forget-acts (s .args .s) (s .args .r) (s .pre .1 .below) _ (s .pre .1) (s .args .run .now) _ (s .pre .0) (forget-floor .ensures .1)
 
 pub forget-floor-spec : {M : Type 1} → statement M
 forget-floor-spec =

@@ -25,7 +25,7 @@ returns : tie.Need-returns
 returns c =
     let s = c .before .before .before .before .before in
     let raise-floor = c .before .before .raise-floor in
-    raise-acts (s .args .s) (s .args .r) (s .pre .1 .below) _ (s .pre .1) (s .args .run .now) _ (s .pre .0) (s .args .stamp) (raise-floor .ensures)
+    raise-acts (s .args .s) (s .args .r) (s .pre .1 .below) _ (s .pre .1) (s .args .run .now) _ (s .pre .0) (s .args .stamp) (raise-floor .ensures .1)
 
 pub raise-floor-spec : {M : Type 1} → statement M
 raise-floor-spec =

@@ -25,7 +25,7 @@ returns : tie.Need-returns
 returns c =
     let s = c .before .before .before .before .before in
     let raise-to-dumped = c .before .before .raise-to-dumped in
-    dumped-acts (s .args .s) (s .args .r) (s .pre .1 .below) _ (s .pre .1) (s .args .run .now) _ (s .pre .0) (s .args .floor) (raise-to-dumped .ensures)
+    dumped-acts (s .args .s) (s .args .r) (s .pre .1 .below) _ (s .pre .1) (s .args .run .now) _ (s .pre .0) (s .args .floor) (raise-to-dumped .ensures .1)
 
 pub raise-to-dumped-spec : {M : Type 1} → statement M
 raise-to-dumped-spec =

@@ -1,3 +1,4 @@
+use native.Mathlib.Omega.{arith}
 use mathlib.Core.Path.{refl}
 use Rattle.strikes_c.proofs.Sending.{as-sent}
 use Rattle.model.specs.Codes.{answer-number, answer-values}
@@ -100,63 +101,65 @@ four-requires c κs = search needs
 
 returns : tie.Need-returns
 unfolding answer-number answer-values
-returns c = as-sent (c .before .before .answer .given .1) (c .alone .ensures) (record { number = refl; values = refl })
+returns c = as-sent (c .before .before .answer .given .1) (c .alone .ensures) (record { number = refl; values = refl; few = omega arith; rest = refl })
 
 returns-2 : tie.Need-returns-2
 unfolding answer-number answer-values
-returns-2 c = as-sent (c .before .enum-told .given .1) (c .alone2 .ensures) (record { number = refl; values = refl })
+returns-2 c = as-sent (c .before .enum-told .given .1) (c .alone2 .ensures) (record { number = refl; values = refl; few = omega arith; rest = refl })
 
 returns-3 : tie.Need-returns-3
 unfolding answer-number answer-values
-returns-3 c = as-sent (c .before .before .before .answer2 .given .1) (c .one .ensures) (rw (c .before .verdict-number .ensures) (record { number = refl; values = refl }))
+returns-3 c =
+    as-sent (c .before .before .before .answer2 .given .1) (c .one .ensures)
+    (rw (c .before .verdict-number .ensures) (record { number = refl; values = refl; few = omega arith; rest = refl }))
 
 returns-4 : tie.Need-returns-4
 unfolding answer-number answer-values
-returns-4 c = as-sent (c .before .enum-told2 .given .1) (c .one2 .ensures) (record { number = refl; values = refl })
+returns-4 c = as-sent (c .before .enum-told2 .given .1) (c .one2 .ensures) (record { number = refl; values = refl; few = omega arith; rest = refl })
 
 returns-5 : tie.Need-returns-5
 unfolding answer-number answer-values
-returns-5 c = as-sent (c .before .enum-told3 .given .1) (c .one3 .ensures) (record { number = refl; values = refl })
+returns-5 c = as-sent (c .before .enum-told3 .given .1) (c .one3 .ensures) (record { number = refl; values = refl; few = omega arith; rest = refl })
 
 returns-6 : tie.Need-returns-6
 unfolding answer-number answer-values
-returns-6 c = as-sent (c .before .enum-told4 .given .1) (c .one4 .ensures) (record { number = refl; values = refl })
+returns-6 c = as-sent (c .before .enum-told4 .given .1) (c .one4 .ensures) (record { number = refl; values = refl; few = omega arith; rest = refl })
 
 returns-7 : tie.Need-returns-7
 unfolding answer-number answer-values
-returns-7 c = as-sent (c .before .enum-told5 .given .1) (c .one5 .ensures) (record { number = refl; values = refl })
+returns-7 c = as-sent (c .before .enum-told5 .given .1) (c .one5 .ensures) (record { number = refl; values = refl; few = omega arith; rest = refl })
 
 returns-8 : tie.Need-returns-8
 unfolding answer-number answer-values
-returns-8 c = as-sent (c .before .before .answer3 .given .1) (c .one6 .ensures) (record { number = refl; values = refl })
+returns-8 c = as-sent (c .before .before .answer3 .given .1) (c .one6 .ensures) (record { number = refl; values = refl; few = omega arith; rest = refl })
 
 returns-9 : tie.Need-returns-9
 unfolding answer-number answer-values
-returns-9 c = as-sent (c .before .before .answer4 .given .1) (c .two .ensures) (record { number = refl; values = refl })
+returns-9 c = as-sent (c .before .before .answer4 .given .1) (c .two .ensures) (record { number = refl; values = refl; few = omega arith; rest = refl })
 
 returns-10 : tie.Need-returns-10
 unfolding answer-number answer-values
-returns-10 c = as-sent (c .before .before .answer5 .given .1) (c .two2 .ensures) (record { number = refl; values = refl })
+returns-10 c = as-sent (c .before .before .answer5 .given .1) (c .two2 .ensures) (record { number = refl; values = refl; few = omega arith; rest = refl })
 
 returns-11 : tie.Need-returns-11
 unfolding answer-number answer-values
-returns-11 c = as-sent (c .before .enum-told6 .given .1) (c .two3 .ensures) (record { number = refl; values = refl })
+returns-11 c = as-sent (c .before .enum-told6 .given .1) (c .two3 .ensures) (record { number = refl; values = refl; few = omega arith; rest = refl })
 
 returns-12 : tie.Need-returns-12
 unfolding answer-number answer-values
-returns-12 c = as-sent (c .before .before .answer6 .given .1) (c .two4 .ensures) (record { number = refl; values = refl })
+returns-12 c = as-sent (c .before .before .answer6 .given .1) (c .two4 .ensures) (record { number = refl; values = refl; few = omega arith; rest = refl })
 
 returns-13 : tie.Need-returns-13
 unfolding answer-number answer-values
-returns-13 c = as-sent (c .before .before .answer7 .given .1) (c .two5 .ensures) (record { number = refl; values = refl })
+returns-13 c = as-sent (c .before .before .answer7 .given .1) (c .two5 .ensures) (record { number = refl; values = refl; few = omega arith; rest = refl })
 
 returns-14 : tie.Need-returns-14
 unfolding answer-number answer-values
-returns-14 c = as-sent (c .before .before .answer8 .given .1) (c .one7 .ensures) (record { number = refl; values = refl })
+returns-14 c = as-sent (c .before .before .answer8 .given .1) (c .one7 .ensures) (record { number = refl; values = refl; few = omega arith; rest = refl })
 
 returns-15 : tie.Need-returns-15
 unfolding answer-number answer-values
-returns-15 c = as-sent (c .before .before .answer9 .given .1) (c .four .ensures) (record { number = refl; values = refl })
+returns-15 c = as-sent (c .before .before .answer9 .given .1) (c .four .ensures) (record { number = refl; values = refl; few = omega arith; rest = refl })
 
 pub send-spec : {M : Type 1} → statement M
 send-spec =

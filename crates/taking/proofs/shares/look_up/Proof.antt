@@ -68,7 +68,7 @@ look-requires c κs =
     let end = ap (λ (n : ℕ). a .class-start .result + n) (c .before .class-width .ensures .0) in (
       class-asks (s .args .s) (class-of (s .args .ticket .who)) _ _ start end (s .args .run .now) (s .pre),
       limits-are-fit (s .args .s) (s .args .run .now) (s .pre) _ _
-          (l .kept-limits .ensures (s .args .s)) (a .before .before .before .is-closed .ensures (s .args .s)),
+          (l .kept-limits .ensures .1 (s .args .s)) (a .before .before .before .is-closed .ensures .1 (s .args .s)),
     )
 
 returns : tie.Need-returns
@@ -80,8 +80,8 @@ returns c =
     let k = a .before .class-of .ensures in
     let start = a .class-start .ensures .0 ∙ ap (λ (z : Class). class-start (s .args .s) z) k in
     let end = ap (λ (n : ℕ). a .class-start .result + n) (class-width .ensures .0) in
-    look-reads (s .args .s) (s .args .ticket) (s .args .run .now) (s .pre) _ _ (l .kept-limits .ensures (s .args .s))
-    (a .before .before .before .is-closed .ensures (s .args .s)) _ _ start end _ (c .look .ensures)
+    look-reads (s .args .s) (s .args .ticket) (s .args .run .now) (s .pre) _ _ (l .kept-limits .ensures .1 (s .args .s))
+    (a .before .before .before .is-closed .ensures .1 (s .args .s)) _ _ start end _ (c .look .ensures)
 
 pub look-up-spec : {M : Type 1} → statement M
 look-up-spec =
