@@ -33,9 +33,9 @@ FAULTS = {
     "equal-part-untested": [(DECIDE, "if t / holders < own {", "if t < own {")],
     # Drawn before room is looked for, and not given back where there is none.
     "share-not-given-back": [
-        ("taking/src/lib.rt", "    shares::enter(run, s, ticket, spot);\n    whole::strike", "    whole::strike"),
-        ("taking/src/lib.rt", "    let room = whole::room(run, s, r, place, ticket);",
-         "    shares::enter(run, s, ticket, spot);\n    let room = whole::room(run, s, r, place, ticket);"),
+        ("taking/src/lib.rt", "    shares::enter(run, s, ticket, spot);\n    on_register::strike", "    on_register::strike"),
+        ("taking/src/lib.rt", "    let room = on_register::room(run, s, r, extent, ticket);",
+         "    shares::enter(run, s, ticket, spot);\n    let room = on_register::room(run, s, r, extent, ticket);"),
     ],
     "growth-forgets-one": [
         ("generation/src/slots.rt", "    let mut i = 0;\n    while i < old.len()", "    let mut i = 1;\n    while i < old.len()"),
@@ -44,7 +44,7 @@ FAULTS = {
         ("restoring/src/holding.rt", "give_back_all(run, s, r, h, tally.draws);", "give_back_all(run, s, r, h, 0);"),
     ],
     "expire-by-the-reading-alone": [
-        ("expiring/src/lib.rt", "let least = taking::least_published(run, s, reading);", "let least = reading;"),
+        ("expiring/src/lib.rt", "let least = least::least_published(run, s, reading);", "let least = reading;"),
     ],
     "second-rounded-down": [
         ("numbers/src/spans.rt", "capped::ceil_div(capped::capped_mul(bucket.0, width), 1000)",
