@@ -9,16 +9,13 @@ use borrow.Author.Tests.{leb-true, not-true}
 use Rattle.model.specs.declared.Answer.the-variants.{Said}
 use Rattle.model.specs.declared.Verdict.the-variants.{New}
 use Rattle.runs.proofs.Cases.{no, allOf, each-true}
-use Rattle.model.specs.Numbers.{compute-numbers}
-use Rattle.model.specs.Settings.{compute-settings, usable-at}
-use Rattle.model.specs.Class.{compute-class, class-of}
-use Rattle.model.specs.Generation.{compute-generation, among, as-read, slots-for}
-use Rattle.model.specs.Book.{compute-book, together, fair, below-share, entries-of, holders-with, own-after, place-free, pair-free, second-of}
-use Rattle.model.specs.Register.{compute-register}
-use Rattle.model.specs.Judge.{compute-judge, Ask, bucket-of}
-use Rattle.model.specs.Dump.{compute-dump}
-use Rattle.model.specs.Codes.{compute-codes, went-through}
-use Rattle.model.specs.Calls.{compute-calls, On, Ticket, judged, taken, taken-batch, ask-of, register-at, reply}
+use Rattle.model.specs.Settings.{usable-at}
+use Rattle.model.specs.Class.{class-of}
+use Rattle.model.specs.Generation.{among, as-read, slots-for}
+use Rattle.model.specs.Book.{together, fair, below-share, entries-of, holders-with, own-after, place-free, pair-free, second-of}
+use Rattle.model.specs.Judge.{Ask, bucket-of}
+use Rattle.model.specs.Codes.{went-through}
+use Rattle.model.specs.Calls.{On, Ticket, judged, taken, taken-batch, ask-of, register-at, reply, compute-rules}
 use Rattle.model.specs.View.{words-after}
 use Rattle.model.specs.EqualPart.{compute-equal-part, Since, since-opening, met, places-beside, Due, answer-due}
 use Rattle.model.specs.EqualPartCases.{compute-words, settings, start, Case, three-parties, another-bucket, answers, heard-of-three, found, yields}
@@ -42,7 +39,7 @@ passes (some x) a = allOf (x .unchanged) (tests x a)
 
 -- all rules
 unfoldable compute-all : ℕ
-unfolding compute-words compute-numbers compute-settings compute-class compute-generation compute-book compute-register compute-judge compute-dump compute-codes compute-calls compute-equal-part went-through answers yields tests passes
+unfolding compute-words compute-rules compute-equal-part went-through answers yields tests passes
 compute-all = 0
 
 -- the answers to the first list

@@ -18,7 +18,9 @@ use Rattle.model.specs.Register.{Register}
 use Rattle.model.specs.Dump.{Dump, read-dump}
 use Rattle.model.specs.Words.{State}
 use Rattle.model.specs.Codes.{went-through}
-use Rattle.model.specs.Calls.{Call, On, Floor, Resume, Kind, Opens, OnOne, Sets, Other, opens, kind, is-open, no-such-register, no-register, register-at, floor-answer, after-restored, resumed, done-on, step, codes-fit, deed-fits, unfit, too-short, sound, unsound, is-cut, deed-refusals, own-refusals, first-met, held-in, refused, reply, after}
+use Rattle.model.specs.Calls.{Call, On, Floor, Resume, Kind, Opens, OnOne, Sets, Other, opens, kind, is-open, no-such-register, no-register, register-at, floor-answer}
+use Rattle.model.specs.Calls.{after-restored, resumed, done-on, step, codes-fit, deed-fits, unfit, too-short, sound, unsound, is-cut, deed-refusals, own-refusals, first-met}
+use Rattle.model.specs.Calls.{held-in, refused, reply, after}
 use Rattle.model.specs.View.{Given, answered, left-by, words-after}
 use Rattle.model.specs.Soundness.{Vetted}
 use Rattle.model.specs.Misreadings.{NoLower}

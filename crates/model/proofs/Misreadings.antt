@@ -12,16 +12,12 @@ use Rattle.model.specs.declared.Class.{Class}
 use Rattle.model.specs.declared.Class.the-variants.{Feeders, Peers, Own}
 use Rattle.model.specs.declared.Settings.{Settings}
 use Rattle.runs.proofs.Cases.{by-test}
-use Rattle.model.specs.Numbers.{compute-numbers, raise, cap64, ceil, cap32}
-use Rattle.model.specs.Settings.{compute-settings, usable-at, ring-of}
-use Rattle.model.specs.Class.{compute-class}
-use Rattle.model.specs.Generation.{compute-generation}
-use Rattle.model.specs.Book.{Held, compute-book, places-of, expire-class, expire}
-use Rattle.model.specs.Register.{Ring, Register, Swept, compute-register, generation-at, passed, visit, visits, sweep-ring, sweep-rings, through-of, sweep, published}
-use Rattle.model.specs.Judge.{compute-judge, verdict}
-use Rattle.model.specs.Dump.{compute-dump}
-use Rattle.model.specs.Codes.{compute-codes}
-use Rattle.model.specs.Calls.{compute-calls, step, no-register, least-published}
+use Rattle.model.specs.Numbers.{raise, cap64, ceil, cap32}
+use Rattle.model.specs.Settings.{usable-at, ring-of}
+use Rattle.model.specs.Book.{Held, places-of, expire-class, expire}
+use Rattle.model.specs.Register.{Ring, Register, Swept, generation-at, passed, visit, visits, sweep-ring, sweep-rings, through-of, sweep, published}
+use Rattle.model.specs.Judge.{verdict}
+use Rattle.model.specs.Calls.{step, no-register, least-published, compute-rules}
 use Rattle.model.specs.SameAnswers.{served, state-after}
 use Rattle.model.specs.Misreadings.{HeldIsDuplicate, NoLower, FloorStands, dumped-first, dumped-again, SlotOrderMayDiffer, UnsweptKeeps}
 
@@ -66,7 +62,7 @@ floor-stands u ms reg f e =
 
 -- ---- slot order may differ
 pub slot-order-may-differ : SlotOrderMayDiffer
-unfolding compute-numbers compute-settings compute-class compute-generation compute-book compute-register compute-judge compute-dump compute-codes compute-calls served state-after dumped-first dumped-again
+unfolding compute-rules served state-after dumped-first dumped-again
 slot-order-may-differ = record { first = refl; again = refl }
 
 -- ---- an unswept register keeps every entry

@@ -12,20 +12,14 @@ use Rattle.model.specs.declared.Answer.the-variants.{Refused, Done, Said
 use Rattle.runs.specs.Words.{zeros, sameWords, pad}
 use Rattle.runs.specs.Chunks.{flat}
 use Rattle.runs.specs.Combine.{wideRow, encRow, readRow, testRow, encUp, readUp, testUp}
-use Rattle.model.specs.Numbers.{compute-numbers}
-use Rattle.model.specs.Settings.{settings-of, settings-fit, words-needed, compute-settings}
-use Rattle.model.specs.Class.{compute-class}
-use Rattle.model.specs.Generation.{compute-generation}
+use Rattle.model.specs.Settings.{settings-of, settings-fit, words-needed}
 use Rattle.model.specs.GenerationWords.{reached-from, generation-sound, GenerationOk}
-use Rattle.model.specs.Book.{compute-book}
 use Rattle.model.specs.BookWords.{read-pairs, pairs-sound, place-sound, used-place, has-place, distinct}
-use Rattle.model.specs.Register.{compute-register}
 use Rattle.model.specs.RegisterWords.{heading-sound}
-use Rattle.model.specs.Judge.{compute-judge}
-use Rattle.model.specs.Dump.{word-bytes, compute-dump}
+use Rattle.model.specs.Dump.{word-bytes}
 use Rattle.model.specs.Words.{front-sound, state-form}
-use Rattle.model.specs.Codes.{compute-codes, went-through}
-use Rattle.model.specs.Calls.{Manner, judged, taken, Ticket, Sweep, Restore, Resume, Call, Open, On, Close, opened, kind, compute-calls}
+use Rattle.model.specs.Codes.{went-through}
+use Rattle.model.specs.Calls.{Manner, judged, taken, Ticket, Sweep, Restore, Resume, Call, Open, On, Close, opened, kind, compute-rules}
 use Rattle.model.specs.View.{Given, answered, left-by, words-after}
 use Rattle.model.specs.Soundness.{Admitted, Vetted}
 use Rattle.model.specs.Once.{takes, asks-about, remade-among, Answered, moments, Calls, Replaces, Aside, LeavesAlone, AllAside, compute-once}
@@ -40,7 +34,7 @@ compute-sound = 0
 
 -- everything that a call on words computes
 unfoldable pub compute-all : ℕ
-unfolding compute-sound has-place distinct heading-sound front-sound went-through compute-numbers compute-settings compute-class compute-generation compute-book compute-register compute-judge compute-dump compute-codes compute-calls compute-once
+unfolding compute-sound has-place distinct heading-sound front-sound went-through compute-rules compute-once
 compute-all = 0
 
 -- ---- one register: no window, buckets of 2 ms, two positions, four slots; two places of two pairs for each class

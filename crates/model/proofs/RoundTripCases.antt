@@ -13,18 +13,16 @@ use Rattle.model.specs.declared.Class.the-variants.{Feeders, Peers, Own}
 use Rattle.model.specs.declared.Start.the-variants.{Empty}
 use Rattle.model.specs.declared.Answer.the-variants.{Dumped, Whole}
 use Rattle.runs.proofs.Cases.{both-true}
-use Rattle.model.specs.Numbers.{compute-numbers, top64}
-use Rattle.model.specs.Settings.{compute-settings, settings-of, usable-at, words-needed}
-use Rattle.model.specs.Class.{compute-class, pick}
-use Rattle.model.specs.Generation.{compute-generation}
-use Rattle.model.specs.Book.{compute-book, Book, together, places-of}
-use Rattle.model.specs.Register.{compute-register, Register, started}
-use Rattle.model.specs.Judge.{compute-judge}
-use Rattle.model.specs.Dump.{compute-dump, dump-words}
-use Rattle.model.specs.Codes.{compute-codes, went-through}
+use Rattle.model.specs.Numbers.{top64}
+use Rattle.model.specs.Settings.{settings-of, usable-at, words-needed}
+use Rattle.model.specs.Class.{pick}
+use Rattle.model.specs.Book.{Book, together, places-of}
+use Rattle.model.specs.Register.{Register, started}
+use Rattle.model.specs.Dump.{dump-words}
+use Rattle.model.specs.Codes.{went-through}
 use Rattle.model.specs.Words.{State}
 use Rattle.model.specs.Soundness.{Vetted}
-use Rattle.model.specs.Calls.{compute-calls, On, Restore, register-at, held-in, reply, after}
+use Rattle.model.specs.Calls.{On, Restore, register-at, held-in, reply, after, compute-rules}
 use Rattle.model.specs.View.{words-after}
 use Rattle.model.specs.EqualPartCases.{compute-words}
 use Rattle.model.specs.RoundTrip.{seconds-in, pairs-with, new-units, RoomFor, EnoughRoom, Words64, Source, written, Target, Returns, touches, none-touches}
@@ -36,7 +34,7 @@ use Rattle.model.proofs.BringsBack.{dump-brings-back}
 
 -- all that words are tested, read and written by, and all rules
 unfoldable compute-all : ℕ
-unfolding compute-words compute-numbers compute-settings compute-class compute-generation compute-book compute-register compute-judge compute-dump compute-codes compute-calls went-through words-after seconds-in pairs-with new-units
+unfolding compute-words compute-rules went-through words-after seconds-in pairs-with new-units
 compute-all = 0
 
 unfoldable all-small : List ℕ → Bool

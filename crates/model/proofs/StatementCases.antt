@@ -11,7 +11,8 @@ use Rattle.model.specs.declared.Answer.the-variants.{Refused, Done, Said
 use Rattle.model.specs.Settings.{settings-of, usable-at}
 use Rattle.model.specs.Book.{second-of}
 use Rattle.model.specs.Dump.{Dumped, Restoring, word-bytes, hold-all, restore-class}
-use Rattle.model.specs.Calls.{Manner, judged, judged-batch, taken, taken-batch, Ticket, ContainsHash, Begin, Sweep, Resume, Floor, Pending, Call, Open, On, Expire, HeldBy, ClassTotals, only-reads, register-at, held-in}
+use Rattle.model.specs.Calls.{Manner, judged, judged-batch, taken, taken-batch, Ticket, ContainsHash, Begin, Sweep, Resume, Floor, Pending, Call, Open, On, Expire, HeldBy}
+use Rattle.model.specs.Calls.{ClassTotals, only-reads, register-at, held-in}
 use Rattle.model.specs.View.{answered, left-by, words-after}
 use Rattle.model.specs.Once.{Answered, moments}
 use Rattle.model.specs.SameAnswers.{served, answers-from}

@@ -24,7 +24,8 @@ use Rattle.model.specs.Generation.{as-read}
 use Rattle.model.specs.Register.{Register, holds, any-class, begin}
 use Rattle.model.specs.Judge.{Ask, bucket-of, window-for, in-window, unjudged, verdict, judge, ahead-for, judge-batch, Taken, take-room, take-share, take-judged, take, take-batch}
 use Rattle.model.specs.Words.{State, state-form}
-use Rattle.model.specs.Calls.{Manner, judged, judged-batch, taken, taken-batch, Ticket, Begin, Call, On, no-register, register-at, with-register, ask-of, after-judged, after-taken, asked, done-on, step, only-reads, is-open, held-in, refused, after}
+use Rattle.model.specs.Calls.{Manner, judged, judged-batch, taken, taken-batch, Ticket, Begin, Call, On, no-register, register-at, with-register, ask-of, after-judged}
+use Rattle.model.specs.Calls.{after-taken, asked, done-on, step, only-reads, is-open, held-in, refused, after}
 use Rattle.model.specs.ReadersLeave.{ReadersLeave, SevenRead}
 use Rattle.model.specs.UnjudgedLeaves.{UnjudgedLeaves}
 use Rattle.model.specs.AlreadyLeaves.{AlreadyLeaves}

@@ -14,7 +14,8 @@ use Rattle.model.specs.Settings.{compute-settings, settings-of, words-ne
 use Rattle.model.specs.Class.{compute-class}
 use Rattle.model.specs.Dump.{bytes-of, word-bytes, dump-words, dump-bytes}
 use Rattle.model.specs.Codes.{compute-codes, went-through}
-use Rattle.model.specs.Calls.{compute-calls, Call, Open, On, DumpTo, register-at, unfit, too-short, unsound, is-open, no-such-register, own-refusals, first-met, held-in, refused, reply, output-of, dumped-by, written-over, output-after}
+use Rattle.model.specs.Calls.{compute-calls, Call, Open, On, DumpTo, register-at, unfit, too-short, unsound, is-open, no-such-register, own-refusals, first-met, held-in}
+use Rattle.model.specs.Calls.{refused, reply, output-of, dumped-by, written-over, output-after}
 use Rattle.model.specs.View.{holding}
 use Rattle.model.specs.SameAnswers.{answers-from, answers-on, words-left, SameOn}
 use Rattle.model.specs.Worked.{settings, open-ample, open-twelve, before, last, Case, cases, P1, strikes, slots-in, slots-holding, numbers, dumped, dumped-paper, Outcome, outcome, paper}

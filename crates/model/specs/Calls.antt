@@ -8,15 +8,16 @@ use lib.ListN.{length, getD, set, take, drop, replicate}
 use Rattle.model.specs.declared.Answer.{Answer}
 use Rattle.model.specs.declared.Answer.the-variants.{Refused, Done, Said, Yes, No, Begun, Already, Dumped, Whole, Partly, NoFloor, FloorAt, SweptTo, Entries, Totals}
 use Rattle.model.specs.declared.Settings.{Settings}
-use Rattle.model.specs.Settings.{settings-width, settings-of, limits-width, limits-of, limits-fit, settings-fit, usable-at, words-needed}
-use Rattle.model.specs.Class.{class-fits, class-at, class-of, deliverer-fits, deliverer-of, three, pick}
-use Rattle.model.specs.Codes.{flag-fits, flag-of, start-fits, start-of}
-use Rattle.model.specs.Generation.{as-read}
-use Rattle.model.specs.Book.{Held, Book, entries-of, entries-in, units, places-of, expire, opened-book, closed-book, with-limits}
-use Rattle.model.specs.Register.{Register, any-class, holds-any, sweep, published, started, begin}
-use Rattle.model.specs.Judge.{Ask, Judgement, judge, judge-batch, Taken, take-batch}
+use Rattle.model.specs.Numbers.{compute-numbers}
+use Rattle.model.specs.Settings.{settings-width, settings-of, limits-width, limits-of, limits-fit, settings-fit, usable-at, words-needed, compute-settings}
+use Rattle.model.specs.Class.{class-fits, class-at, class-of, deliverer-fits, deliverer-of, three, pick, compute-class}
+use Rattle.model.specs.Codes.{flag-fits, flag-of, start-fits, start-of, compute-codes}
+use Rattle.model.specs.Generation.{as-read, compute-generation}
+use Rattle.model.specs.Book.{Held, Book, entries-of, entries-in, units, places-of, expire, opened-book, closed-book, with-limits, compute-book}
+use Rattle.model.specs.Register.{Register, any-class, holds-any, sweep, published, started, begin, compute-register}
+use Rattle.model.specs.Judge.{Ask, Judgement, judge, judge-batch, Taken, take-batch, compute-judge}
 use Rattle.model.specs.Judge.{take as take-ticket}
-use Rattle.model.specs.Dump.{dump-bytes, Dump, read-dump, Restoring, restore, resume}
+use Rattle.model.specs.Dump.{dump-bytes, Dump, read-dump, Restoring, restore, resume, compute-dump}
 use Rattle.model.specs.Words.{State, front-spare, unused-width, state-form}
 
 -- ---- calls, with every number as the host passes it
@@ -436,3 +437,8 @@ output-after st ws call =
 unfoldable pub compute-calls : ℕ
 unfolding start-all opened after-judged after-taken asked after-restored restored resumed least-published class-totals start-fits-at starts-fit limits-words-fit is-cut manner-sort opens beyond act deed-fits deed-refusals done-on meaning codes-fit own-refusals step output-of dumped-by only-reads kind is-open no-such-register settings-words-fit unfit too-short sound unsound first-met held-in refused reply after output-after
 compute-calls = 0
+
+-- the rules of all files
+unfoldable pub compute-rules : ℕ
+unfolding compute-numbers compute-settings compute-class compute-generation compute-book compute-register compute-judge compute-dump compute-codes compute-calls
+compute-rules = 0
