@@ -17,7 +17,7 @@ fn published(run: &[u64], s: Settings, r: usize) -> Judged
     let at = starts::register_extent(s, r);
     let a = at.start;
     let e = at.end;
-    register::published_sweep(&run[a..e])
+    register::heading::published_sweep(&run[a..e])
 }
 
 // The least of a reading and what each register publishes.

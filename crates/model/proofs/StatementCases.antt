@@ -2,7 +2,7 @@
 use Prim.Native.Nat.{ℕ}
 use mathlib.Core.Path.{_≡_, refl}
 use mathlib.Core.Bool.{true, false}
-use mathlib.Core.List.{List, [], _∷_}
+use mathlib.Core.List.{List, [], _∷_, map}
 use lib.ListN.{replicate}
 use Rattle.runs.specs.Chunks.{flat}
 use Rattle.model.specs.declared.Class.the-variants.{Feeders}
@@ -11,8 +11,8 @@ use Rattle.model.specs.declared.Answer.the-variants.{Refused, Done, Said
 use Rattle.model.specs.Settings.{settings-of, usable-at}
 use Rattle.model.specs.Book.{second-of}
 use Rattle.model.specs.Dump.{Dumped, Restoring, word-bytes, hold-all, restore-class}
-use Rattle.model.specs.Calls.{Manner, judged, judged-batch, taken, taken-batch, Ticket, ContainsHash, Begin, Sweep, Resume, Floor, Pending, Call, Open, On, Expire, HeldBy}
-use Rattle.model.specs.Calls.{ClassTotals, only-reads, register-at, held-in}
+use Rattle.model.specs.Calls.{Manner, judged, judged-batch, taken, taken-batch, Ticket, ContainsHash, Begin, Sweep, DumpTo, Resume, Floor, Pending, SweptBucket}
+use Rattle.model.specs.Calls.{Call, Open, On, Expire, HeldBy, ClassTotals, only-reads, register-at, held-in}
 use Rattle.model.specs.View.{answered, left-by, words-after}
 use Rattle.model.specs.Once.{Answered, moments}
 use Rattle.model.specs.SameAnswers.{served, answers-from}
@@ -22,10 +22,26 @@ use Rattle.model.specs.Floors.{forgotten-among, compute-floors}
 use Rattle.model.specs.FailureRaises.{begun}
 use Rattle.model.proofs.NotVacuous.{compute-all, settings, words, given, open-at, opened-words, ask, three-more, nothing-proven}
 
--- ---- a call that only reads goes through; a sweep does not only read
-pub reads : (only-reads (On 0 Pending) ≡ true) × ((answered opened-words (given (On 0 Pending)) ≡ No) × (only-reads (On 0 (Sweep 7)) ≡ false))
+-- ---- the calls that only read (specs/ReadersLeave), on any register, of any numbers and any output. These seven do: `contains_hash`, dump,
+-- floor, pending, swept, held and totals. One of them goes through; a sweep does not only read
+abbrev readers : (r n m : ℕ) → List ℕ → List Call
+readers r n m out =
+    On r (ContainsHash n)
+    ∷ On r (DumpTo out)
+    ∷ On r Floor
+    ∷ On r Pending
+    ∷ On r SweptBucket
+    ∷ HeldBy n m
+    ∷ ClassTotals n
+    ∷ []
+
+pub they-read : (r n m : ℕ) (out : List ℕ) → map only-reads (readers r n m out) ≡ replicate 7 true
+unfolding only-reads
+they-read r n m out = refl
+
+pub reads : (answered opened-words (given (On 0 Pending)) ≡ No) × (only-reads (On 0 (Sweep 7)) ≡ false)
 unfolding compute-all
-reads = (refl, (refl, refl))
+reads = (refl, refl)
 
 -- ---- Unjudged: with the flag off, in all four manners, where a sweep at that reading would have dropped the ticket that is held; and
 -- on a register that started Fallback, up to its begin. Already: every begin after it

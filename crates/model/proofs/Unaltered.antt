@@ -24,9 +24,9 @@ use Rattle.model.specs.Generation.{as-read}
 use Rattle.model.specs.Register.{Register, holds, any-class, begin}
 use Rattle.model.specs.Judge.{Ask, bucket-of, window-for, in-window, unjudged, verdict, judge, ahead-for, judge-batch, Taken, take-room, take-share, take-judged, take, take-batch}
 use Rattle.model.specs.Words.{State, state-form}
-use Rattle.model.specs.Calls.{Manner, judged, judged-batch, taken, taken-batch, Ticket, Begin, Call, On, no-register, register-at, with-register, ask-of, after-judged}
-use Rattle.model.specs.Calls.{after-taken, asked, done-on, step, only-reads, is-open, held-in, refused, after}
-use Rattle.model.specs.ReadersLeave.{ReadersLeave, SevenRead}
+use Rattle.model.specs.Calls.{Manner, judged, judged-batch, taken, taken-batch, Ticket, Begin, Call, On, no-register, register-at, with-register}
+use Rattle.model.specs.Calls.{ask-of, after-judged, after-taken, asked, done-on, step, only-reads, is-open, held-in, refused, after}
+use Rattle.model.specs.ReadersLeave.{ReadersLeave}
 use Rattle.model.specs.UnjudgedLeaves.{UnjudgedLeaves}
 use Rattle.model.specs.AlreadyLeaves.{AlreadyLeaves}
 use Rattle.model.proofs.View.{sound-holds}
@@ -49,18 +49,6 @@ leaves-words st ws call o f =
 pub readers-leave : ReadersLeave
 unfolding only-reads is-open step
 readers-leave st ws call e = let r = lawful call .reads e in leaves-words st ws call (r .shut) (λ z. r .stays (settings-of st) (held-in (settings-of st) ws))
-
-pub seven-read : SevenRead
-unfolding only-reads
-seven-read = record {
-  contains-hash = λ r fp. refl;
-  dump = λ r out. refl;
-  floor = λ r. refl;
-  pending = λ r. refl;
-  swept = λ r. refl;
-  held = λ kind number. refl;
-  totals = λ class. refl;
-}
 
 -- ---- Unjudged: it is said only where the register is pending or the flag off
 not-unjudged : (u : Usable) (reg : Register) (a : Ask) → verdict u reg a ≡ Unjudged → ⊥

@@ -63,11 +63,9 @@ module _ (u : Usable) (ws : List ℕ) where
   pub pending-reads : RegisterReads u (λ reg. reg .pending) ws (read-heading ws .pending)
   pending-reads = record { says = λ reg ok is. pending-read u reg ws is }
 
-  pub floor-reads : RegisterReads u (λ reg. floor-answer (reg .floor)) ws (floor-answer (read-heading ws .floor))
-  floor-reads = record { says = λ reg ok is. ap floor-answer (floor-read u reg ws is) }
-
-  pub under-reads : (stamp : ℕ) → RegisterReads u (λ reg. under stamp (reg .floor)) ws (under stamp (read-heading ws .floor))
-  under-reads stamp = record { says = λ reg ok is. ap (under stamp) (floor-read u reg ws is) }
+  -- whatever is told of the floor
+  pub floor-reads : {R : Type 0} (f : Option ℕ → R) → RegisterReads u (λ reg. f (reg .floor)) ws (f (read-heading ws .floor))
+  floor-reads f = record { says = λ reg ok is. ap f (floor-read u reg ws is) }
 
   pub swept-reads : RegisterReads u (swept-answer u) ws (swept-in ws)
   swept-reads = record { says = λ reg ok is. ap swept-in is }

@@ -60,7 +60,7 @@ pub fn published_sweep(part: &[u64]) -> Judged
 }
 
 // Whether a stamp is at or below the floor.
-pub fn is_under(part: &[u64], stamp: u64) -> bool
+pub(crate) fn is_under(part: &[u64], stamp: u64) -> bool
     requires { ⌜ 24 ≤ length (now part) ⌝ }
     ensures { λ r. ⌜ r ≡ under stamp (read-heading (now (part .entry)) .floor) ⌝ }
     ensures { λ r. ⌜ ((u : Usable) → RegisterReads u (λ reg. under stamp (reg .floor)) (now (part .entry)) r) ⌝ }
@@ -82,7 +82,7 @@ pub fn raise_floor(part: &mut [u64], stamp: u64)
 }
 
 // The same by what a drop forgot.
-pub fn raise_by(part: &mut [u64], went: Dropped)
+pub(crate) fn raise_by(part: &mut [u64], went: Dropped)
     requires { ⌜ 24 ≤ length (now part) ⌝ }
     ensures { λ _. ⌜ now (part .exit) ≡ floor-raised-by went (now (part .entry)) ⌝ }
     ensures { λ r. ⌜ ((u : Usable) → RegisterTurns u (raised-with went) silent (now (part .entry)) (now (part .exit)) (tt {0})) ⌝ }
@@ -94,7 +94,7 @@ pub fn raise_by(part: &mut [u64], went: Dropped)
 }
 
 // Sets the bucket up to which it is swept, with what that publishes.
-pub fn set_swept(part: &mut [u64], u: Usable, swept: Bucket)
+pub(crate) fn set_swept(part: &mut [u64], u: Usable, swept: Bucket)
     requires { ⌜ 24 ≤ length (now part) ⌝ }
     ensures { λ _. ⌜ now (part .exit) ≡ sweep-stored u (swept .0) (now (part .entry)) ⌝ }
     ensures { λ r. ⌜ RegisterTurns u (swept-to (swept .0)) silent (now (part .entry)) (now (part .exit)) (tt {0}) ⌝ }

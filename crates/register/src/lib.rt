@@ -2,7 +2,7 @@
 // there is a floor, the floor, whether it is pending, 13 spare words), then a ring of generations for each class.
 mod extents;
 mod forgetting;
-mod heading;
+pub mod heading;
 mod judging;
 mod rings;
 mod sweeping;
@@ -10,12 +10,6 @@ mod sweeping;
 pub use forgetting::fail;
 pub use forgetting::forget_floor;
 pub use forgetting::raise_to_dumped;
-pub use heading::begin;
-pub use heading::floor;
-pub use heading::is_pending;
-pub use heading::published_sweep;
-pub use heading::raise_floor;
-pub use heading::swept;
 pub use judging::Ask;
 pub use judging::judge;
 pub use judging::judge_batch;

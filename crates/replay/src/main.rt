@@ -6,7 +6,7 @@
 //
 //     CODE N ARGUMENT.. BYTE..
 //
-// CODE names the call (codes.rt), N arguments follow, and what is left are the bytes that the call brings. Arguments come in the order of
+// CODE names the call (run.rt), N arguments follow, and what is left are the bytes that the call brings. Arguments come in the order of
 // docs/CALLS.md. A deliverer is its kind and its number, a start its code and its number, a proven floor 1 and the floor, or 0 and 0. A
 // dump has a register, and 1 and the length of its output, or 0 and 0. An opening has R, P, E and the two place units, five limits, and
 // for each register six numbers and its start; settings have the same, with 0 and 0 for a start.
@@ -14,7 +14,6 @@
 // A line of an answer is what an entry point of C gives: 0, or the refusal number, and then the out numbers; of a dump, its length and
 // then its bytes. A line that is no call is answered by `unread`, which no answer is.
 mod answer;
-mod codes;
 mod input;
 mod line;
 mod run;

@@ -1,10 +1,55 @@
 // Runs the call of a line.
 use crate::answer::Said;
-use crate::codes;
 use crate::line;
 use model::Answer;
 ghost use Prim.Native.Nat.{_≤_, _<_};
 ghost use lib.ListN.{length};
+
+// The code of each call, under the name that it has in docs/CALLS.md, and of the lines that set the stage. tests/replay_stdin takes the
+// codes from here.
+const OPEN: u64 = 1;
+
+const JUDGE: u64 = 2;
+
+const TAKE: u64 = 3;
+
+const JUDGE_BATCH: u64 = 4;
+
+const TAKE_BATCH: u64 = 5;
+
+const CONTAINS_HASH: u64 = 6;
+
+const BEGIN: u64 = 7;
+
+const EXPIRE: u64 = 8;
+
+const SWEEP: u64 = 9;
+
+const LIMITS: u64 = 10;
+
+const CLOSE: u64 = 11;
+
+const DUMP: u64 = 12;
+
+const RESTORE: u64 = 13;
+
+const RESUME: u64 = 14;
+
+const FLOOR: u64 = 15;
+
+const PENDING: u64 = 16;
+
+const SWEPT: u64 = 17;
+
+const HELD: u64 = 18;
+
+const CLASS: u64 = 19;
+
+const LEND: u64 = 101;
+
+const SETTINGS: u64 = 102;
+
+const POKE: u64 = 103;
 
 // What a line said, and how many words are lent from then on.
 pub struct Ran {
@@ -28,13 +73,13 @@ pub(crate) fn run(
 {
     let n = line::most(lent, words.len());
     match code {
-        codes::LEND => Ran {
+        LEND => Ran {
             said: Said::Told(Answer::Done),
             lent: a[0],
         },
-        codes::SETTINGS => stays(bring(next, a), lent),
-        codes::POKE => stays(poke(words, a[0], a[1]), lent),
-        codes::OPEN => stays(open(a, &mut words[0..n], kept, next), lent),
+        SETTINGS => stays(bring(next, a), lent),
+        POKE => stays(poke(words, a[0], a[1]), lent),
+        OPEN => stays(open(a, &mut words[0..n], kept, next), lent),
         _ => {
             let said = call(code, a, filled, &mut words[0..n], next, bytes);
             copy_words(next, kept);
@@ -130,44 +175,24 @@ fn call(
 {
     Said::Told(
         match code {
-            codes::JUDGE => strikes::judge(s, words, a[0], a[1], a[2], a[3], a[4], a[5], a[6]),
-            codes::TAKE => strikes::take(s, words, a[0], a[1], a[2], a[3], a[4], a[5], a[6]),
-            codes::JUDGE_BATCH => strikes::judge_batch(
-                s,
-                words,
-                a[0],
-                a[1],
-                a[2],
-                a[3],
-                a[4],
-                a[5],
-                a[6],
-            ),
-            codes::TAKE_BATCH => strikes::take_batch(
-                s,
-                words,
-                a[0],
-                a[1],
-                a[2],
-                a[3],
-                a[4],
-                a[5],
-                a[6],
-            ),
-            codes::CONTAINS_HASH => strikes::contains_hash(s, words, a[0], a[1]),
-            codes::BEGIN => strikes::begin(s, words, a[0], a[1]),
-            codes::EXPIRE => strikes::expire(s, words, a[0]),
-            codes::SWEEP => strikes::sweep(s, words, a[0], a[1]),
-            codes::LIMITS => strikes::set_limits(s, words, &[a[0], a[1], a[2], a[3], a[4]]),
-            codes::CLOSE => strikes::close(s, words),
-            codes::DUMP => dump(s, words, a[0], a[1], a[2], bytes),
-            codes::RESTORE => strikes::restore(s, words, a[0], &bytes[0..filled]),
-            codes::RESUME => strikes::resume(s, words, a[0], &bytes[0..filled], a[1], a[2]),
-            codes::FLOOR => strikes::floor(s, words, a[0]),
-            codes::PENDING => strikes::pending(s, words, a[0]),
-            codes::SWEPT => strikes::swept(s, words, a[0]),
-            codes::HELD => strikes::held(s, words, a[0], a[1]),
-            codes::CLASS => strikes::class_totals(s, words, a[0]),
+            JUDGE => strikes::judge(s, words, a[0], a[1], a[2], a[3], a[4], a[5], a[6]),
+            TAKE => strikes::take(s, words, a[0], a[1], a[2], a[3], a[4], a[5], a[6]),
+            JUDGE_BATCH => strikes::judge_batch(s, words, a[0], a[1], a[2], a[3], a[4], a[5], a[6]),
+            TAKE_BATCH => strikes::take_batch(s, words, a[0], a[1], a[2], a[3], a[4], a[5], a[6]),
+            CONTAINS_HASH => strikes::contains_hash(s, words, a[0], a[1]),
+            BEGIN => strikes::begin(s, words, a[0], a[1]),
+            EXPIRE => strikes::expire(s, words, a[0]),
+            SWEEP => strikes::sweep(s, words, a[0], a[1]),
+            LIMITS => strikes::set_limits(s, words, &[a[0], a[1], a[2], a[3], a[4]]),
+            CLOSE => strikes::close(s, words),
+            DUMP => dump(s, words, a[0], a[1], a[2], bytes),
+            RESTORE => strikes::restore(s, words, a[0], &bytes[0..filled]),
+            RESUME => strikes::resume(s, words, a[0], &bytes[0..filled], a[1], a[2]),
+            FLOOR => strikes::floor(s, words, a[0]),
+            PENDING => strikes::pending(s, words, a[0]),
+            SWEPT => strikes::swept(s, words, a[0]),
+            HELD => strikes::held(s, words, a[0], a[1]),
+            CLASS => strikes::class_totals(s, words, a[0]),
             _ => return Said::Unread,
         },
     )

@@ -87,5 +87,5 @@ pub fn raise_floor(run: &mut [u64], s: Settings, r: usize, extent: RegisterExten
 {
     let a = extent.start;
     let e = extent.end;
-    register::raise_floor(&mut run[a..e], stamp);
+    register::heading::raise_floor(&mut run[a..e], stamp);
 }

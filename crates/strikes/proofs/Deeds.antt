@@ -9,14 +9,13 @@ use Rattle.model.specs.declared.Answer.the-variants.{Done, Said}
 use Rattle.model.specs.declared.Settings.{Settings}
 use Rattle.model.specs.declared.Usable.{Usable}
 use Rattle.model.specs.declared.Verdict.{Verdict}
-use Rattle.model.specs.Generation.{as-read}
 use Rattle.model.specs.Judge.{Ask}
-use Rattle.model.specs.Register.{Register, begin, sweep, any-class, holds-any}
+use Rattle.model.specs.Register.{Register, begin, sweep}
 use Rattle.model.specs.Settings.{settings-of, usable-at}
 use Rattle.model.specs.Words.{State}
-use Rattle.model.specs.Calls.{Asking, Manner, judged, judged-batch, On, Ticket, Begin, Sweep, ContainsHash, Floor, Pending, SweptBucket, yes-no}
-use Rattle.model.specs.Calls.{floor-answer, deed-fits, deed-refusals, done-on, ask-of, asked, after-judged, register-at, reply}
-use Rattle.register.specs.Rules.{asked-by, begin-says, swept-answer, judged-register, judge-says, batch-register, batch-says}
+use Rattle.model.specs.Calls.{Asking, Manner, judged, judged-batch, Deed, On, Ticket, Begin, Sweep, no-refusals, yes-no}
+use Rattle.model.specs.Calls.{deed-fits, deed-refusals, done-on, ask-of, asked, after-judged, register-at, reply}
+use Rattle.register.specs.Rules.{asked-by, begin-says, judged-register, judge-says, batch-register, batch-says}
 use Rattle.register.specs.Words.{RegisterReads, RegisterTurns}
 use Rattle.strikes.specs.declared.RegisterEntry.{RegisterEntry}
 use Rattle.strikes.specs.declared.Ticket.{Ticket as Handed}
@@ -35,23 +34,31 @@ module _ {st ws : List ℕ} {r : ℕ} {p : RegisterEntry} (at : AtRegister st ws
   unfolding deed-fits deed-refusals done-on
   swept-by turn = told-turned at z (Sweep _) refl (λ reg. refl) (λ v. Done) (λ u t. refl) (λ u t. rw u) turn
 
-  pub held-hash : (fp : ℕ) {b : Bool} {a : Answer} → RegisterReads (p .u) (λ reg. any-class (holds-any (as-read fp)) (reg .rings)) (part-of p ws) b
-      → a ≡ yes-no b → a ≡ reply st ws (On r (ContainsHash fp))
-  unfolding deed-fits deed-refusals done-on
-  held-hash fp reads e = e ∙ told-read at z (ContainsHash fp) refl (λ reg. refl) yes-no (λ u t. refl) reads
+-- ---- a deed that reads: it has no codes and no refusals of its own, and its answer is made of what f is of the register
+pub record Tells {R : Type 0} (deed : Deed) (answer : R → Answer) (f : Usable → Register → R) : Type 0 where
+  pub fits : true ≡ deed-fits deed
+  pub never : (reg : Register) → deed-refusals reg deed ≡ no-refusals
+  pub says : (s : Settings) (r : ℕ) (t : State) → done-on s r deed t .answer ≡ answer (f (usable-at s r) (register-at r t))
 
-  pub waits : {b : Bool} {a : Answer} → ((u : Usable) → RegisterReads u (λ reg. reg .pending) (part-of p ws) b) → a ≡ yes-no b
-      → a ≡ reply st ws (On r Pending)
-  unfolding deed-fits deed-refusals done-on
-  waits reads e = e ∙ told-read at z Pending refl (λ reg. refl) yes-no (λ u t. refl) (reads _)
+module _ {st ws : List ℕ} {r : ℕ} {p : RegisterEntry} (at : AtRegister st ws true r p) (z : p .refusal ≡ 0) where
+  told-by : {R : Type 0} {deed : Deed} {answer : R → Answer} {f : Usable → Register → R} {v : R} → Tells deed answer f
+      → RegisterReads (p .u) (f (p .u)) (part-of p ws) v → answer v ≡ reply st ws (On r deed)
+  told-by {deed = deed} {answer = answer} tells reads =
+      told-read at z deed (tells .fits) (tells .never) answer (λ u t. rw u (tells .says (settings-of st) r t)) reads
 
-  pub floor-told : {a : Answer} → ((u : Usable) → RegisterReads u (λ reg. floor-answer (reg .floor)) (part-of p ws) a) → a ≡ reply st ws (On r Floor)
-  unfolding deed-fits deed-refusals done-on
-  floor-told reads = told-read at z Floor refl (λ reg. refl) (λ a. a) (λ u t. refl) (reads _)
+  -- the answer itself, found without the register's settings
+  pub answered : {deed : Deed} {f : Usable → Register → Answer} {a : Answer} → Tells deed (λ v. v) f
+      → ((u : Usable) → RegisterReads u (f u) (part-of p ws) a) → a ≡ reply st ws (On r deed)
+  answered tells reads = told-by tells (reads _)
 
-  pub swept-told : {a : Answer} → ((u : Usable) → RegisterReads u (swept-answer u) (part-of p ws) a) → a ≡ reply st ws (On r SweptBucket)
-  unfolding deed-fits deed-refusals done-on
-  swept-told reads = told-read at z SweptBucket refl (λ reg. refl) (λ a. a) (λ u t. rw u) (reads _)
+  -- yes or no, found with the register's settings; without them
+  pub whether-by : {deed : Deed} {f : Register → Bool} {b : Bool} {a : Answer} → RegisterReads (p .u) f (part-of p ws) b → a ≡ yes-no b
+      → Tells deed yes-no (λ u. f) → a ≡ reply st ws (On r deed)
+  whether-by reads e tells = e ∙ told-by tells reads
+
+  pub whether : {deed : Deed} {f : Usable → Register → Bool} {b : Bool} {a : Answer} → Tells deed yes-no f
+      → ((u : Usable) → RegisterReads u (f u) (part-of p ws) b) → a ≡ yes-no b → a ≡ reply st ws (On r deed)
+  whether tells reads e = e ∙ told-by tells (reads _)
 
 -- ---- a ticket that is judged
 -- what is told in a manner in which the register becomes f and the verdict is out

@@ -198,7 +198,7 @@ pub fn begin(settings: &[u64], words: &mut [u64], register: u64, number: u64) ->
     }
     let a = at.start;
     let e = at.end;
-    register::begin(&mut words[a..e], number)
+    register::heading::begin(&mut words[a..e], number)
 }
 
 // Sweeps, as the host's tick does: what the clock has passed is dropped, and raises the floor.
@@ -247,7 +247,7 @@ pub fn floor(settings: &[u64], words: &[u64], register: u64) -> Answer
     }
     let a = at.start;
     let e = at.end;
-    register::floor(&words[a..e])
+    register::heading::floor(&words[a..e])
 }
 
 // Whether the register waits for the host's number.
@@ -260,7 +260,7 @@ pub fn pending(settings: &[u64], words: &[u64], register: u64) -> Answer
     }
     let a = at.start;
     let e = at.end;
-    yes_or_no(register::is_pending(&words[a..e]))
+    yes_or_no(register::heading::is_pending(&words[a..e]))
 }
 
 // The bucket up to which the register is swept, and that in milliseconds, as the share book reads it.
@@ -273,7 +273,7 @@ pub fn swept(settings: &[u64], words: &[u64], register: u64) -> Answer
     }
     let a = at.start;
     let e = at.end;
-    register::swept(&words[a..e])
+    register::heading::swept(&words[a..e])
 }
 
 // As judge, and a new ticket is remembered: it draws on its deliverer's share, and is struck.
@@ -445,7 +445,7 @@ fn dump_refused(part: &[u64], u: Usable, room: usize) -> u64
     requires { ⌜ RegisterWords u (now part) ⌝ }
     ensures { λ n. ⌜ DumpTried u room (now (part .entry)) n ⌝ }
 {
-    let pending = register::is_pending(part);
+    let pending = register::heading::is_pending(part);
     let long = dump::dump_length(part, u);
     six_or_five(pending, room < long)
 }
