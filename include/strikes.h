@@ -14,8 +14,8 @@
  * refused, and no function reads or writes outside what it is lent.
  *
  * What a function returns
- * - STRIKES_OK (0) where the call went through, else the number of a refusal. Refusals are tried in the order 1, 2, 3, 4, 6, 5, 7, and
- *   each comes exactly in its condition. A refusal alters nothing: no word, no byte of an output, no out number.
+ * - STRIKES_OK (0) where the call went through, else the number of a refusal. Refusals are tried in the order 1, 2, 3, 4, 8, 6, 5, 7,
+ *   and each comes exactly in its condition. A refusal alters nothing: no word, no byte or word of an output, no out number.
  * - Out numbers are written where the call went through, and only there.
  * - Each function says which refusals it may answer. "1 to 4" are those of every call on a register.
  *
@@ -48,6 +48,8 @@
 #define STRIKES_PENDING 6
 /* A dump that is restored is cut short. */
 #define STRIKES_CUT_SHORT 7
+/* A view's output is too short for it. */
+#define STRIKES_VIEW_TOO_SHORT 8
 
 /* ---- verdicts: what a ticket is */
 
@@ -137,8 +139,9 @@ extern "C" {
 
 /* ---- memory */
 
-/* needed: the words that the settings need, to be lent to strikes_open and every later call. Words past those are neither read nor
-   written. 8 bytes for each needed word are always enough output for a dump.
+/* needed: the words that the settings need, to be lent to strikes_open and every later call: 3 * ring * (slots + 5) for each register,
+   3 * places * (2 * pairs + 4), and 128; at least 194 and at most 3,358,592. Words past those are neither read nor written. 8 bytes for
+   each needed word are always enough output for a dump.
    Refusals: 1. */
 uint64_t strikes_words_needed(const uint64_t *settings, size_t settings_length, uint64_t *needed);
 
@@ -261,6 +264,32 @@ uint64_t strikes_pending(const uint64_t *settings, size_t settings_length, const
    Refusals: 1 to 4. */
 uint64_t strikes_swept(const uint64_t *settings, size_t settings_length, const uint64_t *words, size_t words_length,
                        uint64_t register_number, uint64_t *bucket, uint64_t *published);
+
+/* ---- views: what is remembered, as 64-bit words, so that a meter can be checked against it. A view only reads: it sweeps nothing,
+   frees nothing, and is served while a register is pending and after the book is closed. */
+
+/* Words that are always enough for a view: 512 pairs and the entries; three classes of 256 generations. With the settings at hand,
+   2 * pairs + 1 words are enough for a deliverer, and 12 * ring for a register. */
+#define STRIKES_MOST_DELIVERER_VIEW 1025
+#define STRIKES_MOST_REGISTER_VIEW 3072
+
+/* Writes what the book remembers of a deliverer at the start of out: of each of its pairs the second in which entries expire and how many
+   do, seconds rising, and then its entries, which are the sum of those counts, of all registers. A deliverer that has none has one
+   word, 0. written: the words, 2 for each pair and 1. Words of out past those keep their content.
+   A Restored is named by the class that it carries, and is no Peer or Feeder of that class; of a Relay the number is not read.
+   Refusals: 1 to 3; 1 also for a deliverer that is not listed; 8 where out has fewer words than the view. */
+uint64_t strikes_view_deliverer(const uint64_t *settings, size_t settings_length, const uint64_t *words, size_t words_length,
+                                uint64_t kind, uint64_t number, uint64_t *out, size_t out_length, uint64_t *written);
+
+/* Writes what a register holds at the start of out: of each generation that holds a fingerprint its bucket, its oldest stamp, its newest
+   stamp and the number that it holds. They come in the sequence of a dump: classes 0, 1, 2, and in each by position, which is the bucket
+   modulo the ring; nothing stands between the classes. Oldest and newest are of all stamps inserted since the generation was empty; a
+   fingerprint that a restore brought back counts as inserted at the dump's newest stamp, one that was held already too. written: the
+   words, 4 for each generation; 0 where the register holds nothing, and then out may have no words. Words of out past those keep their
+   content.
+   Refusals: 1 to 4; 8 where out has fewer words than the view. */
+uint64_t strikes_view_register(const uint64_t *settings, size_t settings_length, const uint64_t *words, size_t words_length,
+                               uint64_t register_number, uint64_t *out, size_t out_length, uint64_t *written);
 
 #ifdef __cplusplus
 }

@@ -37,10 +37,11 @@ OTHER_NAMES = {
 # How the wrapper and the machine that runs lists of calls bring an entry point up.
 USE = r"\braw::(\w+)"
 
-# What an argument is, by its type in Rust and in Rattle.
+# What an argument is, by its type in Rust and in Rattle. A run of exactly one word is a pointer alone, as an out number is.
 KINDS = {
     "u64": "a number",
     "&mut u64": "an out number",
+    "&mut [u64; 1]": "an out number",
     "&[u64]": "words that are read",
     "&mut [u64]": "words that may be altered",
     "&[u8]": "bytes that are read",
@@ -54,6 +55,8 @@ FAULTS = [
     (HEADER, r"const uint64_t \*words", "uint64_t *words"),
     (HEADER, r"const uint8_t \*bytes", "uint8_t *bytes"),
     (HEADER, r"uint8_t \*out\b", "uint64_t *out"),
+    (HEADER, r"uint64_t \*out\b", "uint8_t *out"),
+    (HEADER, r"uint64_t \*out, size_t out_length", "uint64_t *out"),
     (HEADER, r"uint64_t \*begun", "uint64_t begun"),
     (HEADER, r", uint64_t \*published", ""),
     (HEADER, r"size_t limits_length", "uint64_t limits_length"),
@@ -66,11 +69,13 @@ FAULTS = [
     (CODE, r"flag: u64,\s+floor: u64", "floor: u64, flag: u64"),
     (CODE, r"#\[no_mangle\]\s", ""),
     (CODE, r"bytes: &\[u8\]", "bytes: &[u64]"),
+    (CODE, r"out: &mut \[u64\]", "out: &mut [u64; 1]"),
     (WRAPPER, r"raw::sweep", "raw::swept"),
     (MACHINE, r"raw::take_batch", "raw::take"),
     (LOOKS, r"Swept swept\(.*", ""),
     (LOOKS, r"\(register, fingerprint\)", "(fingerprint, register)"),
     (LOOKS, r"\(who: Who\)", "(who)"),
+    (LOOKS, r", length: Length\)", ")"),
     (STACK, r"\bclass_number\b", "class"),
     (STACK, r"\bstarts_length\b", "starts"),
 ]
@@ -143,9 +148,9 @@ def of_table(text):
 
 
 def of_looks(text):
-    """The numbers that reading calls hand to their entry points, by name; a deliverer is two."""
+    """What reading calls hand to their entry points beside settings and words, by name; a deliverer is two numbers, a length an output."""
     lines = re.findall(r"^ +[A-Z]\w* (\w+)\((.*)\) -> \w+;$", text, flags=re.M)
-    return {name: parts(said.replace("who: Who", "kind, number")) for name, said in lines}
+    return {name: parts(said.replace("who: Who", "kind, number").replace("length: Length", "out")) for name, said in lines}
 
 
 def members(text):
@@ -197,12 +202,13 @@ def apart(place, entries, table):
 
 
 def unused(texts, table):
-    """The entry points that are forgotten, and reading calls whose parts are not the numbers that the entry point takes."""
+    """The entry points that are forgotten, and reading calls whose parts are not what the entry point takes."""
     wrapper, machine, looks = set(re.findall(USE, texts[WRAPPER])), set(re.findall(USE, texts[MACHINE])), of_looks(texts[LOOKS])
     found = missing(WRAPPER, wrapper, set(table) - {"words_needed"}, TABLE)  # which is in settings.rs
     found += missing(f"{MACHINE} or {LOOKS}", machine | set(looks), set(table), TABLE)
     for name in sorted(set(looks) & set(table)):
-        here, there = looks[name], named(table[name], "u64")
+        outs = named(table[name], "&mut u64")
+        here, there = looks[name], [argument for argument, _ in table[name] if argument not in ["settings", "words", *outs]]
         if here != there:
             found.append(f"{name}: {LOOKS} has {', '.join(here)}; {TABLE} has {', '.join(there)}")
     return found

@@ -311,6 +311,28 @@ fn pairs(size: &Size, fill: Fill, dump: Option<&[u8]>, runs: usize) -> Vec<Compa
             black_box(book.dump(0)).expect("not pending");
         },
     ));
+    let mut view = vec![0; raw::REGISTER_VIEW];
+    all.push(repeated(
+        "view_register",
+        size,
+        dump,
+        runs,
+        move |ours, _, _| {
+            black_box(raw::view_register(
+                &ours.settings,
+                &ours.words,
+                0,
+                &mut view,
+            ))
+            .expect("room enough");
+        },
+        |book, _, _| {
+            black_box(book.look(&Look::ViewRegister {
+                register: 0,
+                length: None,
+            }));
+        },
+    ));
     if let Some(dump) = dump.filter(|_| fill == Fill::Full) {
         all.push(restored(size, dump, runs));
     }

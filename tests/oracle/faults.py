@@ -36,6 +36,13 @@ FAULTS = {
     "newest-not-kept": [
         ("self.newest_ms = self.newest_ms.max(signed_ms);", "self.newest_ms = signed_ms;"),
     ],
+    # An oldest stamp of 0 is taken for none.
+    "oldest-zero-is-none": [
+        ("self.oldest_ms = if !held && self.len == 1 {", "self.oldest_ms = if self.oldest_ms == 0 {"),
+    ],
+    "oldest-not-kept": [
+        ("else { self.oldest_ms.min(signed_ms) };", "else { signed_ms };"),
+    ],
     "position-clash-overwritten": [
         ("generation.bucket != expires && generation.len > 0",
          "generation.bucket != expires && false"),

@@ -30,6 +30,26 @@ EDITS = [
         "if place.expiring.len() == place.expiring.capacity() "
         "|| crate::stage::pairs_used_up(place.expiring.len()) {",
     ),
+    (
+        "oldest stamp",
+        "The Rust remembers a generation's newest stamp alone; a view tells the oldest as well.",
+        "    newest_ms: u64,\n}",
+        "    newest_ms: u64,\n    oldest_ms: u64,\n}",
+    ),
+    (
+        "oldest stamp, inserted",
+        "The first fingerprint brings it, whatever the stamp is, and each later one may lower it.",
+        "self.newest_ms = self.newest_ms.max(signed_ms);",
+        "self.oldest_ms = if !held && self.len == 1 { signed_ms } "
+        "else { self.oldest_ms.min(signed_ms) };\n"
+        "        self.newest_ms = self.newest_ms.max(signed_ms);",
+    ),
+    (
+        "oldest stamp, dropped",
+        "Nothing is held, so there is no oldest stamp.",
+        "self.newest_ms = 0;",
+        "self.newest_ms = 0;\n        self.oldest_ms = 0;",
+    ),
 ]
 
 # Appended at the end: a module that reads private fields and alters nothing.

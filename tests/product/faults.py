@@ -51,6 +51,11 @@ FAULTS = {
          "capped::capped_mul(bucket.0, width) / 1000"),
     ],
     "newest-not-kept": [(GENERATION, "let newest = capped::larger(head.newest, stamp);", "let newest = stamp;")],
+    # An oldest stamp of 0 is taken for none.
+    "oldest-zero-is-none": [
+        (GENERATION, "    if head.held == 0 {\n        return stamp;", "    if head.oldest == 0 {\n        return stamp;"),
+    ],
+    "oldest-not-kept": [(GENERATION, "    capped::smaller(head.oldest, stamp)\n", "    stamp\n")],
     "position-clash-overwritten": [
         (GENERATION, "(part[Generation::HELD] != 0) {", "(part[Generation::HELD] == 18446744073709551615) {"),
         (GENERATION, "    grow(part, known);\n    enter(",

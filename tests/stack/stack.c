@@ -41,7 +41,8 @@ static size_t depth(void (*run)(void)) {
  * that is left out. */
 static struct {
     uint64_t settings[STRIKES_SETTINGS], limits[STRIKES_LIMITS], starts[STRIKES_STARTS], *words;
-    uint8_t *bytes, *out;
+    uint8_t *bytes;
+    void *out; /* bytes of a dump, words of a view */
     size_t settings_length, limits_length, starts_length, words_length, bytes_length, out_length;
     uint64_t register_number, fingerprint, stamp, reading, flag, kind, number, class_number, floor;
 } next = {.limits_length = STRIKES_LIMITS, .starts_length = STRIKES_STARTS};
@@ -65,7 +66,7 @@ static struct entry {
 } entry[ENTRIES] = {ENTRY_POINTS(START)};
 
 static size_t empty;
-static unsigned long refusals[8], verdicts[6], restored[2];
+static unsigned long refusals[9], verdicts[6], restored[2];
 
 static void measure(int which) {
     struct entry *e = &entry[which];
@@ -99,11 +100,11 @@ static void limits_at(uint64_t most) {
  * too far on to be followed, so that they are sorted. */
 static void crowd(uint64_t places, uint64_t pairs, uint64_t slots) {
     uint64_t *generation = next.words + 20 + 3 * (4 + places * (2 * pairs + 4)) + 24;
-    memset(generation, 0, 8 * (4 + slots));
+    memset(generation, 0, 8 * (5 + slots));
     generation[0] = slots;
     generation[1] = 3 * slots / 4;
     for (uint64_t k = 0; k < generation[1]; k++)
-        generation[4 + k] = slots * (k + 1);
+        generation[5 + k] = slots * (k + 1);
 }
 
 /* Opens words with these settings, and makes calls at random; of 256 slots those of one generation are crowded at every call. */
@@ -159,6 +160,8 @@ static void calls_under(uint64_t registers, uint64_t places, uint64_t pairs, uin
             which = is_restore;
         if (which == is_close && below(10))
             which = is_dump;
+        if (which == is_view_deliverer || which == is_view_register)
+            next.out_length /= 8;
         if (which == is_set_limits)
             limits_at(below(2000));
         if (slots == 256)
@@ -191,7 +194,7 @@ int main(void) {
     for (int i = 0; i < ENTRIES; i++)
         printf("%-24s %10zu %10lu %10lu\n", entry[i].name, entry[i].deepest, entry[i].through, entry[i].refused);
     int missing = 0;
-    for (int i = 1; i < 8; i++)
+    for (int i = 1; i < 9; i++)
         missing |= !refusals[i];
     for (int i = 0; i < 6; i++)
         missing |= !verdicts[i];

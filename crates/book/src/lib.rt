@@ -39,7 +39,7 @@ pub struct Spot {
 }
 
 // The place of a deliverer, or the number of places in use where it has none.
-fn find_place(part: &[u64], shares: Shares, who: Deliverer) -> usize
+pub fn find_place(part: &[u64], shares: Shares, who: Deliverer) -> usize
     requires { ⌜ ClassIs shares (class-of who) (now part) ⌝ }
     ensures { λ r. ⌜ ClassReads shares (class-of who) (λ h. place-index who (h .places)) (now (part .entry)) r ⌝ }
 {

@@ -3,6 +3,7 @@ use Prim.Native.Nat.{ℕ, suc, _+_, _*_, _≤_}
 use native.Mathlib.Nat.{mul-le-mul}
 use native.Mathlib.Omega.{arith}
 use mathlib.Core.Path.{_≡_, refl, ap, _∙_}
+use mathlib.Core.Bool.{cond}
 use mathlib.Core.List.{List, [], _∷_, _++_}
 use mathlib.Core.Option.{Option, none, some}
 use lib.Dec.{eqb}
@@ -19,20 +20,25 @@ use Rattle.model.specs.Register.{Register}
 use Rattle.model.specs.RegisterWords.{floor-flag, floor-word, heading-width, encode-heading, of-register, register-form}
 use Rattle.model.specs.Generation.{Generation, count}
 use Rattle.model.specs.GenerationWords.{encode-generation, GenerationOk}
-use Rattle.model.specs.Dump.{word-bytes, dumped-floor, held-generations, generations-words, class-words, dump-words, dump-bytes}
+use Rattle.model.specs.Dump.{word-bytes, dumped-floor, held-list, generation-words, class-words, dump-words, dump-bytes}
 use Rattle.model.specs.Most.{generation-most}
 use Rattle.model.proofs.BytesRead.{bytes-long}
 use Rattle.model.proofs.GenerationWords.{generation-wide, live-pad}
 use Rattle.model.proofs.DumpRead.{prints-length}
 use Rattle.generation.proofs.Looking.{bounded}
-use Rattle.dump.specs.Parts.{part-words, part-length, parts-words, parts-length, parts-held, ring-words, AllBounded, Laid, LaidOut, floor-of, ring-at, register-words, register-long}
-use Rattle.dump.specs.Bytes.{written, Fits, Puts}
+use Rattle.dump.specs.Parts.{part-words, part-length, parts, parts-words, parts-length, parts-held, ring-words, AllBounded, Laid, LaidOut, floor-of, ring-at, register-words, register-long}
+use Rattle.runs.specs.Over.{written}
+use Rattle.dump.specs.Bytes.{Fits, Puts}
 
--- ---- one generation, before the words of others
+-- what a generation comes to: nothing where it holds nothing
+abbrev pub if-held : Generation → List ℕ → List ℕ
+if-held g words = cond (eqb (count (g .slots)) 0) [] words
+
+-- ---- one generation
 module _ (S : ℕ) (g : Generation) (fits : length (g .slots) ≤ S) where
-  part-first : (gs : List Generation) → part-words (encode-generation S g) ++ generations-words gs ≡ generations-words (g ∷ gs)
-  unfolding part-words generations-words
-  part-first gs = rw (live-pad S g fits) (by-test (eqb (count (g .slots)) 0) (λ e. rw e) (λ e. rw e))
+  part-is : part-words (encode-generation S g) ≡ if-held g (generation-words g)
+  unfolding part-words
+  part-is = rw (live-pad S g fits) (by-test (eqb (count (g .slots)) 0) (λ e. rw e) (λ e. rw e))
 
   part-long : part-length (encode-generation S g) ≡ length (part-words (encode-generation S g))
   unfolding part-words part-length
@@ -48,29 +54,35 @@ module _ (S n : ℕ) where
   behind : (g : Generation) (us : List ℕ) → drop (generation-width S) (encode-generation S g ++ us) ≡ us
   behind g us = drop-at (encode-generation S g) us (generation-width S) (generation-wide S g)
 
-  words-are : (i : ℕ) (gs : List Generation) → EachOk (GenerationOk S n) i gs
-      → parts-words (generation-width S) (length gs) (flat (encode-generation S) gs) ≡ generations-words gs
-  unfolding parts-words generations-words flat EachOk
-  words-are i [] ok = refl
-  words-are i (g ∷ gs) ok =
-      rw (front g (flat (encode-generation S) gs), behind g (flat (encode-generation S) gs), words-are (suc i) gs (ok .1))
-      (part-first S g (ok .0 .fits) gs)
+  -- what each part comes to is what each held generation comes to, in dump sequence
+  pub parts-are : (f : List ℕ → List ℕ) (words : Generation → List ℕ)
+      → ((g : Generation) → length (g .slots) ≤ S → f (encode-generation S g) ≡ if-held g (words g))
+      → (i : ℕ) (gs : List Generation) → EachOk (GenerationOk S n) i gs
+      → parts f (generation-width S) (length gs) (flat (encode-generation S) gs) ≡ flat words (held-list gs)
+  unfolding parts held-list flat EachOk
+  parts-are f words one i [] ok = refl
+  parts-are f words one i (g ∷ gs) ok =
+      rw (front g (flat (encode-generation S) gs), behind g (flat (encode-generation S) gs), parts-are f words one (suc i) gs (ok .1), one g (ok .0 .fits))
+      (by-test (eqb (count (g .slots)) 0) (λ e. rw e) (λ e. rw e))
 
-  held-are : (gs : List Generation) → parts-held (generation-width S) (length gs) (flat (encode-generation S) gs) ≡ held-generations gs
-  unfolding parts-held held-generations flat
+  words-are : (i : ℕ) (gs : List Generation) → EachOk (GenerationOk S n) i gs
+      → parts-words (generation-width S) (length gs) (flat (encode-generation S) gs) ≡ flat generation-words (held-list gs)
+  words-are i gs ok = parts-are part-words generation-words (part-is S) i gs ok
+
+  pub held-are : (gs : List Generation) → parts-held (generation-width S) (length gs) (flat (encode-generation S) gs) ≡ length (held-list gs)
+  unfolding parts-held held-list flat
   held-are [] = refl
-  held-are (g ∷ gs) = rw (behind g (flat (encode-generation S) gs), held-are gs)
+  held-are (g ∷ gs) =
+      rw (behind g (flat (encode-generation S) gs), held-are gs)
+      (by-test (eqb (count (g .slots)) 0) (λ e. rw e (omega arith)) (λ e. rw e (omega arith)))
 
   long-are : (i : ℕ) (gs : List Generation) → EachOk (GenerationOk S n) i gs
-      → parts-length (generation-width S) (length gs) (flat (encode-generation S) gs) ≡ length (generations-words gs)
-  unfolding parts-length generations-words flat EachOk
+      → parts-length (generation-width S) (length gs) (flat (encode-generation S) gs)
+      ≡ length (parts-words (generation-width S) (length gs) (flat (encode-generation S) gs))
+  unfolding parts-length parts flat EachOk
   long-are i [] ok = refl
   long-are i (g ∷ gs) ok =
-      let f = ok .0 .fits in
-      let e : length (part-words (encode-generation S g) ++ generations-words gs) ≡ length (generations-words (g ∷ gs)) = ap length (part-first S g f gs) in
-      let l = length-append (part-words (encode-generation S g)) (generations-words gs) in
-      rw (front g (flat (encode-generation S) gs), behind g (flat (encode-generation S) gs), long-are (suc i) gs (ok .1), part-long S g f)
-      (omega arith)
+      rw (front g (flat (encode-generation S) gs), behind g (flat (encode-generation S) gs), long-are (suc i) gs (ok .1), part-long S g (ok .0 .fits), length-append)
 
   bounds-are : (i : ℕ) (gs : List Generation) → EachOk (GenerationOk S n) i gs → S ≤ 1_024
       → AllBounded (generation-width S) (length gs) (flat (encode-generation S) gs)
@@ -87,11 +99,15 @@ module _ (S n : ℕ) where
 
     pub ring-is : ring-words (generation-width S) n (flat (encode-generation S) gs) ≡ class-words gs
     unfolding ring-words class-words
-    ring-is = rw (← ok .0, held-are gs) (ap (λ (l : List ℕ). held-generations gs ∷ l) (words-are 0 gs (ok .1)))
+    ring-is = rw (← ok .0, held-are gs) (ap (λ (l : List ℕ). length (held-list gs) ∷ l) (words-are 0 gs (ok .1)))
 
     pub ring-counted : parts-length (generation-width S) n (flat (encode-generation S) gs) + 1 ≡ length (class-words gs)
     unfolding class-words
-    ring-counted = let e = long-are 0 gs (ok .1) in let m = ok .0 in let q = rw m at e in omega arith
+    ring-counted =
+        let e = long-are 0 gs (ok .1) ∙ ap length (words-are 0 gs (ok .1)) in
+        let m = ok .0 in
+        let q = rw m at e in
+        omega arith
 
     pub ring-laid : S ≤ 1_024 → n ≤ 256 → Laid (generation-width S) n (flat (encode-generation S) gs)
     ring-laid small few =
@@ -122,13 +138,13 @@ floor-is none = refl
 floor-is (some f) = refl
 
 module _ (u : Usable) (reg : Register) (ok : register-form u .Ok reg) (ws : List ℕ) (is : ws ≡ register-form u .enc reg) where
-  abbrev wide : ℕ
+  abbrev pub wide : ℕ
   wide = generation-width (u .slots)
 
-  abbrev words-of-ring : List Generation → List ℕ
+  abbrev pub words-of-ring : List Generation → List ℕ
   words-of-ring gs = flat (encode-generation (u .slots)) gs
 
-  feeders : ring-at wide (ring-of u) 0 ws ≡ words-of-ring (reg .rings .of-feeders)
+  pub feeders : ring-at wide (ring-of u) 0 ws ≡ words-of-ring (reg .rings .of-feeders)
   feeders =
       let l = ok .0 in
       rw is
@@ -137,7 +153,7 @@ module _ (u : Usable) (reg : Register) (ok : register-form u .Ok reg) (ws : List
       (ring-long (u .slots) (ring-of u) (reg .rings .of-feeders) (ok .1 .0)) (ring-long (u .slots) (ring-of u) (reg .rings .of-peers) (ok .1 .1 .0))
       (ring-long (u .slots) (ring-of u) (reg .rings .of-own) (ok .1 .1 .1)))
 
-  peers : ring-at wide (ring-of u) 1 ws ≡ words-of-ring (reg .rings .of-peers)
+  pub peers : ring-at wide (ring-of u) 1 ws ≡ words-of-ring (reg .rings .of-peers)
   peers =
       let l = ok .0 in
       rw is
@@ -146,7 +162,7 @@ module _ (u : Usable) (reg : Register) (ok : register-form u .Ok reg) (ws : List
       (ring-long (u .slots) (ring-of u) (reg .rings .of-feeders) (ok .1 .0)) (ring-long (u .slots) (ring-of u) (reg .rings .of-peers) (ok .1 .1 .0))
       (ring-long (u .slots) (ring-of u) (reg .rings .of-own) (ok .1 .1 .1)))
 
-  own : ring-at wide (ring-of u) 2 ws ≡ words-of-ring (reg .rings .of-own)
+  pub own : ring-at wide (ring-of u) 2 ws ≡ words-of-ring (reg .rings .of-own)
   own =
       let l = ok .0 in
       rw is
@@ -194,7 +210,7 @@ module _ (u : Usable) (reg : Register) (ok : register-form u .Ok reg) (ws : List
       let n = rw e at (d .next) in
       let l = bytes-long (dump-words reg) in
       let z : 0 + length (flat word-bytes (dump-words reg)) ≡ length (flat word-bytes (dump-words reg)) = omega arith in
-      (rw (← z) (rw e at (d .bytes)), omega arith)
+      (rw (← z) (rw e at (d .out)), omega arith)
 
   -- that there is room for it
   pub room-for : {out : List ℕ} → length (dump-bytes reg) ≤ length out → Fits 0 (register-words wide (ring-of u) ws) out

@@ -19,9 +19,11 @@ use Rattle.model.specs.Dump.{word-bytes, dumped-floor, fingerprints}
 use Rattle.generation.specs.declared.Generation.{Generation as Leading}
 use Rattle.generation.specs.Words.{Bounded, Leads}
 use Rattle.generation.proofs.Looking.{lent-slots}
-use Rattle.dump.specs.Bytes.{written, Fits, Puts}
-use Rattle.dump.specs.Parts.{part-words, part-length, parts-words, parts-length, parts-held, ring-words, AllBounded, Laid, floor-of, ring-at, register-words}
-use Rattle.dump.proofs.Writing.{Writes, writes-start, writes-fits, writes-on, writes-end, writes-last, puts-none, puts-one}
+use Rattle.runs.specs.Over.{written}
+use Rattle.runs.proofs.Over.{fits-first, writes-start, writes-fits, writes-end, writes-last}
+use Rattle.dump.specs.Bytes.{Fits, Puts}
+use Rattle.dump.specs.Parts.{part-words, part-length, parts, parts-words, parts-length, parts-held, ring-words, AllBounded, Laid, floor-of, ring-at, register-words}
+use Rattle.dump.proofs.Writing.{Writes, writes-on, puts-none, puts-one}
 
 -- ---- put_print
 pub print-none : (p x : ℕ) (out : List ℕ) → x ≡ 0 → Puts p (fingerprints (x ∷ [])) out out p
@@ -79,8 +81,7 @@ module _ (ws : List ℕ) (g : Leading) (l : Leads ws g) (p : ℕ) where
 
     pub lead-fits : Fits p (g .bucket ∷ g .newest ∷ g .held ∷ []) out
     lead-fits =
-        writes-fits (g .bucket ∷ g .newest ∷ g .held ∷ []) (fingerprints (lent-slots (g .slots) ws))
-        (rw part-split at (writes-start f))
+        fits-first (g .bucket ∷ g .newest ∷ g .held ∷ []) (fingerprints (lent-slots (g .slots) ws)) (rw part-split at f)
 
     module _ {mid : List ℕ} {q : ℕ} (d : Puts p (g .bucket ∷ g .newest ∷ g .held ∷ []) out mid q) where
       lead-on : Writes q (fingerprints (lent-slots (g .slots) ws)) mid p (part-words ws) out
@@ -135,11 +136,11 @@ module _ (k : ℕ) (ws : List ℕ) (a : ℕ) where
       let b = r .bounded .1 in
       rw e (record { room = omega (arith, suc-mul m k); bounded = rw (drop-drop k a ws) at b })
 
-  pub words-step : (left : ℕ) → 0 < left
-      → parts-words k left (drop a ws) ≡ part-words (midOf a (a + k - a) ws) ++ parts-words k (left - 1) (drop (a + k) ws)
-  unfolding parts-words
-  words-step zero h = absurd (omega arith)
-  words-step (suc m) h =
+  pub words-step : (f : List ℕ → List ℕ) (left : ℕ) → 0 < left
+      → parts f k left (drop a ws) ≡ f (midOf a (a + k - a) ws) ++ parts f k (left - 1) (drop (a + k) ws)
+  unfolding parts
+  words-step f zero h = absurd (omega arith)
+  words-step f (suc m) h =
       let e : suc m - 1 ≡ m = omega arith in
       let f : a + k - a ≡ k = omega arith in
       rw (e, f, drop-drop k a ws)
@@ -209,15 +210,15 @@ module _ (k n i a e : ℕ) (ws : List ℕ) (ha : a ≡ heading-width + i * (n * 
 -- ---- put_generations: at word a, with `left` generations to come
 module _ (k : ℕ) (ws : List ℕ) (a left : ℕ) (h : 0 < left) {p p₀ : ℕ} {out ws₀ out₀ : List ℕ} (w : Writes p (parts-words k left (drop a ws)) out p₀ ws₀ out₀) where
   pub part-fits : Fits p (part-words (midOf a (a + k - a) ws)) out
-  part-fits = writes-fits (part-words (midOf a (a + k - a) ws)) (parts-words k (left - 1) (drop (a + k) ws)) (rw (words-step k ws a left h) at w)
+  part-fits = writes-fits (part-words (midOf a (a + k - a) ws)) (parts-words k (left - 1) (drop (a + k) ws)) (rw (words-step k ws a part-words left h) at w)
 
   pub part-on : {after : List ℕ} {r : ℕ} → Puts p (part-words (midOf a (a + k - a) ws)) out after r
       → Writes r (parts-words k (left - 1) (drop (a + k) ws)) after p₀ ws₀ out₀
-  part-on d = writes-on (part-words (midOf a (a + k - a) ws)) (parts-words k (left - 1) (drop (a + k) ws)) (rw (words-step k ws a left h) at w) d
+  part-on d = writes-on (part-words (midOf a (a + k - a) ws)) (parts-words k (left - 1) (drop (a + k) ws)) (rw (words-step k ws a part-words left h) at w) d
 
 pub parts-end : (k : ℕ) (us : List ℕ) (left : ℕ) → left ≡ 0 → {p p₀ : ℕ} {out ws₀ out₀ : List ℕ}
     → Writes p (parts-words k left us) out p₀ ws₀ out₀ → Puts p₀ ws₀ out₀ out p
-unfolding parts-words
+unfolding parts
 parts-end k us left z w = writes-end (rw z at w)
 
 -- each as `put_dump` lends it

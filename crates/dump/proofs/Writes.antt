@@ -12,7 +12,7 @@ use Rattle.register.specs.Words.{RegisterWords, RegisterReads}
 use Rattle.dump.specs.Bytes.{Fits, Puts}
 use Rattle.dump.specs.Parts.{register-words, register-long, LaidOut}
 use Rattle.dump.proofs.Dumped.{register-counted, dumped, room-for, laid-out}
-use Rattle.dump.specs.Dumps.{Holds, Dumps}
+use Rattle.dump.specs.Outputs.{Holds, Outputs}
 
 module _ (u : Usable) (ws : List ℕ) (w : RegisterWords u ws) where
   pub few : Few u
@@ -25,8 +25,8 @@ module _ (u : Usable) (ws : List ℕ) (w : RegisterWords u ws) where
     pub counted : (n : ℕ) → n ≡ register-long (generation-width (u .slots)) ring ws → RegisterReads u (λ reg. length (dump-bytes reg)) ws n
     counted n e = record { says = λ reg ok is. (rw r at e) ∙ register-counted u reg ok ws is }
 
-    pub has-room : {out : List ℕ} → Holds u ws out → Fits 0 (register-words (generation-width (u .slots)) ring ws) out
+    pub has-room : {out : List ℕ} → Holds dump-bytes u ws out → Fits 0 (register-words (generation-width (u .slots)) ring ws) out
     has-room h = rw r (room-for u (w .is .value) (w .is .ok) ws (w .is .words) (h .room (w .is .value) (w .is .ok) (w .is .words)))
 
-    pub wrote : {out after : List ℕ} {n : ℕ} → Puts 0 (register-words (generation-width (u .slots)) ring ws) out after n → Dumps u ws out after n
-    wrote p = let q = rw r at p in record { bytes = record { says = λ reg ok is. dumped u reg ok ws is q .0 }; count = record { says = λ reg ok is. dumped u reg ok ws is q .1 } }
+    pub wrote : {out after : List ℕ} {n : ℕ} → Puts 0 (register-words (generation-width (u .slots)) ring ws) out after n → Outputs dump-bytes u ws out after n
+    wrote p = let q = rw r at p in record { out = record { says = λ reg ok is. dumped u reg ok ws is q .0 }; count = record { says = λ reg ok is. dumped u reg ok ws is q .1 } }

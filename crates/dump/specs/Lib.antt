@@ -1,4 +1,4 @@
 pub mod Bytes
 pub mod Walk
 pub mod Parts
-pub mod Dumps
+pub mod Outputs

@@ -18,10 +18,13 @@ part-words ws = cond (eqb (getD ws 1 0) 0) [] (getD ws 3 0 ∷ getD ws 2 0 ∷ g
 unfoldable pub part-length : List ℕ → ℕ
 part-length ws = cond (eqb (getD ws 1 0) 0) 0 (getD ws 1 0 + 3)
 
--- ---- n of them, each of k words
-unfoldable pub parts-words : ℕ → ℕ → List ℕ → List ℕ
-parts-words k zero ws = []
-parts-words k (suc n) ws = part-words (take k ws) ++ parts-words k n (drop k ws)
+-- ---- n of them, each of k words: what each comes to, one after the other
+unfoldable pub parts : (List ℕ → List ℕ) → ℕ → ℕ → List ℕ → List ℕ
+parts f k zero ws = []
+parts f k (suc n) ws = f (take k ws) ++ parts f k n (drop k ws)
+
+abbrev pub parts-words : ℕ → ℕ → List ℕ → List ℕ
+parts-words k n ws = parts part-words k n ws
 
 unfoldable pub parts-length : ℕ → ℕ → List ℕ → ℕ
 parts-length k zero ws = 0

@@ -16,3 +16,4 @@ pub use walk::floor_word;
 pub use walk::generation_at;
 pub use walk::print_at;
 pub use walk::read_lengths;
+pub use write::count_held;

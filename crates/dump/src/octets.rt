@@ -3,7 +3,7 @@ ghost use mathlib.Core.Path.{_≡_};
 ghost use Prim.Native.Nat.{_+_, _/_, _*_, _≤_, _<_};
 ghost use lib.ListN.{length, take, drop, getD};
 ghost use Rattle.model.specs.Dump.{number-of, word-bytes, words-of};
-ghost use Rattle.dump.specs.Bytes.{written};
+ghost use Rattle.runs.specs.Over.{written};
 
 // A byte as a number that it can be added up in.
 fn wide(b: u8) -> u64

@@ -6,7 +6,7 @@ use numbers::spans;
 ghost use lib.ListN.{length};
 ghost use Rattle.model.specs.Dump.{dump-bytes};
 ghost use Rattle.register.specs.Words.{RegisterWords, RegisterReads};
-ghost use Rattle.dump.specs.Dumps.{Holds, Dumps};
+ghost use Rattle.dump.specs.Outputs.{Holds, Outputs};
 
 // How many bytes the dump has.
 pub fn dump_length(part: &[u64], u: Usable) -> usize
@@ -20,8 +20,8 @@ pub fn dump_length(part: &[u64], u: Usable) -> usize
 
 // Writes it at the start of an output that is long enough, leaves what lies behind it, and answers how many bytes it has.
 pub fn dump(out: &mut [u8], part: &[u64], u: Usable) -> usize
-    requires { ⌜ RegisterWords u (now part) × Holds u (now part) (now out) ⌝ }
-    ensures { λ n. ⌜ Dumps u (now (part .entry)) (now (out .entry)) (now (out .exit)) n ⌝ }
+    requires { ⌜ RegisterWords u (now part) × Holds dump-bytes u (now part) (now out) ⌝ }
+    ensures { λ n. ⌜ Outputs dump-bytes u (now (part .entry)) (now (out .entry)) (now (out .exit)) n ⌝ }
 {
     let ring = spans::ring_of(u) as usize;
     let wide = (u.slots as usize) + layout::GENERATION_HEAD;

@@ -79,7 +79,7 @@ fn generation_length(part: &[u64]) -> usize
 // ---- one class: a ring of generations, each of `wide` words
 
 // How many of them are held.
-fn count_held(words: &[u64], wide: usize, ring: usize) -> u64
+pub fn count_held(words: &[u64], wide: usize, ring: usize) -> u64
     requires { ⌜ Laid wide ring (now words) ⌝ }
     ensures { λ r. ⌜ r ≡ parts-held wide ring (now (words .entry)) ⌝ }
 {

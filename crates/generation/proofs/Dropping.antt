@@ -27,7 +27,9 @@ none-held : (S n i : ℕ) (g : Generation) → GenerationOk S n i g → count (g
 unfolding dropped
 none-held S n i g ok z =
     ok-ways S n i g ok
-    (λ e newest j. record { bucket = g .bucket; newest = sym newest j; slots = sym e j })
+    (λ e newest.
+    let oldest : g .oldest ≡ 0 = let a = ok .aged in omega arith in
+    λ j. record { bucket = g .bucket; oldest = sym oldest j; newest = sym newest j; slots = sym e j })
     (λ p some b c r. absurd (omega arith))
 
 module _ (ws : List ℕ) (h : Leading) (leads : Leads ws h) where
@@ -39,7 +41,7 @@ module _ (ws : List ℕ) (h : Leading) (leads : Leads ws h) where
   }
 
   pub drops-all : (h .held ≡ 0 → ⊥) → (ys : List ℕ) → ys ≡ replicate (length (lent-slots (h .slots) ws)) 0
-      → (next : Leading) → next ≡ record { slots = 0; held = 0; newest = 0; bucket = h .bucket }
+      → (next : Leading) → next ≡ record { slots = 0; held = 0; newest = 0; bucket = h .bucket; oldest = 0 }
       → GenerationTurns dropped drop-says ws (led-by next (with-lent (h .slots) ws ys)) (Newest (h .newest))
   unfolding dropped count
   drops-all some ys y next x S n i = record {

@@ -1,18 +1,19 @@
 -- A fingerprint is inserted: the slots grow, and it is entered.
-use Prim.Native.Nat.{ℕ, _+_, _-_, _≤_, max}
+use Prim.Native.Nat.{ℕ, _+_, _-_, _≤_, max, min}
 use native.Mathlib.Omega.{arith}
 use mathlib.Core.Path.{_≡_, refl, sym, _∙_, ap}
-use mathlib.Core.Bool.{Bool}
+use mathlib.Core.Bool.{Bool, cond}
 use mathlib.Core.List.{List, [], _++_, append-nil}
 use lib.ListN.{length, getD, set, take, drop, replicate, length-append, length-take, length-drop, drop-of-length-le}
 use lib.Seq.{take-all, drop-append-add}
+use lib.Dec.{eqb}
 use borrow.Rule.Slice.PartMut.{putMid, midOf}
 use Rattle.runs.specs.Words.{pad}
 use Rattle.runs.proofs.Words.{length-pad, drop-zeros, pad-fits}
 use Rattle.runs.proofs.Firsts.{firsts-are}
 use Rattle.runs.specs.Turns.{silent}
 use Rattle.model.specs.Widths.{generation-head, generation-width}
-use Rattle.model.specs.Generation.{count, among, put, grown, slots-for, insert}
+use Rattle.model.specs.Generation.{count, among, put, grown, slots-for, oldest-with, insert}
 use Rattle.model.proofs.Probing.{put-length}
 use Rattle.model.proofs.Growth.{slots-law, grown-length, grown-count, ok-found}
 use Rattle.model.proofs.GenerationWords.{generation-wide, live-pad}
@@ -32,10 +33,11 @@ pad-over S s t h k =
     (ap (λ (n : ℕ). t ++ drop n (s ++ replicate (S - length s) 0)) e ∙ rw (drop-append-add, drop-zeros, m))
 
 -- ---- entered
-pub enters : (ws : List ℕ) (h : Leading) → Leads ws h → (fp : ℕ) (ys : List ℕ) (added : ℕ) → Puts fp (lent-slots (h .slots) ws) ys added
-    → (b stamp newest : ℕ) → newest ≡ max (h .newest) stamp → FittingTurns (entered b fp stamp) silent ws
-    (led-by (record { slots = h .slots; held = h .held + added; newest = newest; bucket = b }) (with-lent (h .slots) ws ys)) tt
-enters ws h leads fp ys added puts b stamp newest n S = record {
+pub enters : (ws last : List ℕ) (h : Leading) → Leads ws h → (fp : ℕ) (ys : List ℕ) (added : ℕ) → Puts fp (lent-slots (h .slots) ws) ys added
+    → (b stamp newest oldest : ℕ) → newest ≡ max (h .newest) stamp → oldest ≡ cond (eqb (h .held) 0) stamp (min (h .oldest) stamp)
+    → last ≡ led-by (record { slots = h .slots; held = h .held + added; newest = newest; bucket = b; oldest = oldest }) (with-lent (h .slots) ws ys)
+    → FittingTurns (entered b fp stamp) silent ws last tt
+enters ws last h leads fp ys added puts b stamp newest oldest n o led S = record {
   does = λ g fits is.
       let live = slots-part S g fits ws is (h .slots) (leads .slots) in
       let e0 : h .slots ≡ length (g .slots) = leads .slots ∙ ap (λ (l : List ℕ). getD l 0 0) is in
@@ -46,10 +48,12 @@ enters ws h leads fp ys added puts b stamp newest n S = record {
       let counted : count (put (g .slots) fp) ≡ count (g .slots) + added = rw (live, y) at (puts .held) in
       let c : h .held + added ≡ count (put (g .slots) fp) = omega arith in
       let k : generation-width (h .slots) - generation-head ≡ length (put (g .slots) fp) = omega arith in
+      let e4 : h .oldest ≡ g .oldest = leads .oldest ∙ ap (λ (l : List ℕ). getD l 4 0) is in
       let m : newest ≡ max (g .newest) stamp = n ∙ rw e2 in
+      let a : oldest ≡ oldest-with stamp g = o ∙ rw (e1, e4) in
       let w : h .slots ≡ length (put (g .slots) fp) = omega arith in
       let p = pad-over S (g .slots) (put (g .slots) fp) (omega arith) (omega arith) in
-      (rw (y, k, is, c, m, w, p), refl);
+      (led ∙ rw (y, k, is, c, m, a, w, p), refl);
 }
 
 -- ---- grown
@@ -113,6 +117,8 @@ inserts ws mid last known b fp stamp reads roomy one two S n i = record {
       let r = roomy .room in
       let a : slots-for known s ≡ slots-after known (getD ws 0 0) (getD ws 1 0) = slots-are known s ∙ rw is in
       let l = grown-length (slots-for known s) s in
+      let enough = slots-law known s .enough in
+      let same : count (grown (slots-for known s) s) ≡ count s = grown-count (slots-for known s) s (ok-found S n i g ok) (omega arith) in
       let m : length ws ≡ generation-width S = rw is (generation-wide S g) in
-      (rw (← k) (two S .does (with-slots-for known g) (omega arith) (one S n i .does g ok is .0) .0), refl);
+      (rw (← same, ← k) (two S .does (with-slots-for known g) (omega arith) (one S n i .does g ok is .0) .0), refl);
 }

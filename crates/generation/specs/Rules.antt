@@ -5,7 +5,7 @@ use mathlib.Core.Option.{Option, none, some}
 use lib.Dec.{eqb, leb}
 use Rattle.model.specs.declared.Room.{Room}
 use Rattle.model.specs.declared.Room.the-variants.{At, Collides, Full}
-use Rattle.model.specs.Generation.{Generation, held, among, put, slots-for, grown, dropped}
+use Rattle.model.specs.Generation.{Generation, oldest-with, held, among, put, slots-for, grown, dropped}
 use Rattle.model.specs.Register.{passed}
 use Rattle.model.specs.Judge.{collides}
 use Rattle.generation.specs.declared.Dropped.{Dropped}
@@ -21,10 +21,10 @@ room-in known b i most g = cond (collides b g) Collides (cond (leb (slots-for kn
 
 -- the two halves of an insertion: growth, and then the fingerprint with its bucket and stamp
 abbrev pub with-slots-for : Bool → Generation → Generation
-with-slots-for known g = record { bucket = g .bucket; newest = g .newest; slots = grown (slots-for known (g .slots)) (g .slots) }
+with-slots-for known g = record { bucket = g .bucket; oldest = g .oldest; newest = g .newest; slots = grown (slots-for known (g .slots)) (g .slots) }
 
 abbrev pub entered : ℕ → ℕ → ℕ → Generation → Generation
-entered b fp stamp g = record { bucket = b; newest = max (g .newest) stamp; slots = put (g .slots) fp }
+entered b fp stamp g = record { bucket = b; oldest = oldest-with stamp g; newest = max (g .newest) stamp; slots = put (g .slots) fp }
 
 -- a drop answers the newest that went
 abbrev pub drop-says : Generation → Dropped

@@ -25,13 +25,14 @@ pub record Leads (ws : List ℕ) (g : Leading) : Type 0 where
   pub held : g .held ≡ getD ws 1 0
   pub newest : g .newest ≡ getD ws 2 0
   pub bucket : g .bucket ≡ getD ws 3 0
+  pub oldest : g .oldest ≡ getD ws 4 0
 
 -- and written over those of a run
 abbrev pub led-by : Leading → List ℕ → List ℕ
-led-by g ws = g .slots ∷ g .held ∷ g .newest ∷ g .bucket ∷ drop generation-head ws
+led-by g ws = g .slots ∷ g .held ∷ g .newest ∷ g .bucket ∷ g .oldest ∷ drop generation-head ws
 
 abbrev pub opened : Leading
-opened = record { slots = 0; held = 0; newest = 0; bucket = 0 }
+opened = record { slots = 0; held = 0; newest = 0; bucket = 0; oldest = 0 }
 
 -- there is room for the slots that one more fingerprint asks for
 pub record Roomy (known : Bool) (ws : List ℕ) : Type 0 where

@@ -1,4 +1,4 @@
-// A generation: the fingerprints of one bucket, in its own run of words. Its head leads (slots, held, newest, bucket), then
+// A generation: the fingerprints of one bucket, in its own run of words. Its head leads (slots, held, newest, bucket, oldest), then
 // come the slots: as many as the first word says are live, and the rest of the run is 0.
 use crate::slots::put;
 use crate::slots::regrow;
@@ -9,8 +9,10 @@ use model::Room;
 use numbers::capped;
 use numbers::layout;
 ghost use mathlib.Core.Path.{_≡_};
-ghost use Prim.Native.Nat.{_≤_, _<_};
+ghost use mathlib.Core.Bool.{cond};
+ghost use Prim.Native.Nat.{_≤_, _<_, min};
 ghost use lib.ListN.{length};
+ghost use lib.Dec.{eqb};
 ghost use Rattle.runs.specs.Turns.{silent};
 ghost use Rattle.model.specs.Widths.{generation-head};
 ghost use Rattle.model.specs.Generation.{among, insert, dropped};
@@ -31,9 +33,11 @@ pub struct Generation {
     pub slots: u64,
     // How many of them hold a fingerprint.
     pub held: u64,
-    // The newest stamp among those.
+    // The newest stamp that was inserted.
     pub newest: u64,
     pub bucket: u64,
+    // The oldest stamp that was inserted.
+    pub oldest: u64,
 }
 
 // What a generation forgets as it is dropped: nothing, or all up to the newest stamp that it held.
@@ -58,6 +62,8 @@ impl Generation {
 
     pub const BUCKET: usize = 3;
 
+    pub const OLDEST: usize = 4;
+
     // One that holds nothing yet.
     pub fn open() -> Generation
         ensures { λ r. ⌜ r ≡ opened ⌝ }
@@ -67,6 +73,7 @@ impl Generation {
             held: 0,
             newest: 0,
             bucket: 0,
+            oldest: 0,
         }
     }
 
@@ -80,6 +87,7 @@ impl Generation {
             held: part[Generation::HELD],
             newest: part[Generation::NEWEST],
             bucket: part[Generation::BUCKET],
+            oldest: part[Generation::OLDEST],
         }
     }
 
@@ -92,6 +100,7 @@ impl Generation {
         part[Generation::HELD] = self.held;
         part[Generation::NEWEST] = self.newest;
         part[Generation::BUCKET] = self.bucket;
+        part[Generation::OLDEST] = self.oldest;
     }
 }
 
@@ -149,6 +158,16 @@ fn grow(part: &mut [u64], known: bool)
     part[Generation::SLOTS] = wanted;
 }
 
+// The oldest stamp once this one is inserted. Nothing held tells the first insertion, since a stamp of 0 is a stamp.
+fn oldest_with(head: Generation, stamp: u64) -> u64
+    ensures { λ r. ⌜ r ≡ cond (eqb (head .held) 0) stamp (min (head .oldest) stamp) ⌝ }
+{
+    if head.held == 0 {
+        return stamp;
+    }
+    capped::smaller(head.oldest, stamp)
+}
+
 // A fingerprint is entered under its bucket and its stamp.
 fn enter(part: &mut [u64], bucket: Bucket, fp: u64, stamp: u64)
     requires { ⌜ (0 < fp) × Bounded (now part) ⌝ }
@@ -159,11 +178,13 @@ fn enter(part: &mut [u64], bucket: Bucket, fp: u64, stamp: u64)
     let e = n + Generation::HEAD;
     let added = put(&mut part[Generation::HEAD..e], fp);
     let newest = capped::larger(head.newest, stamp);
+    let oldest = oldest_with(head, stamp);
     let next = Generation {
         slots: head.slots,
         held: head.held + added,
         newest: newest,
         bucket: bucket.0,
+        oldest: oldest,
     };
     next.lead(part);
 }

@@ -110,6 +110,9 @@ pub fn is_sound(part: &[u64], ring: u64, at: u64) -> bool
     if !runs::zeros_only(&part[e..]) {
         return false;
     }
+    if part[Generation::NEWEST] < part[Generation::OLDEST] {
+        return false;
+    }
     let held = part[Generation::HELD];
     if n == 0 {
         return (held == 0) & (part[Generation::NEWEST] == 0);

@@ -1,7 +1,7 @@
 -- What a dump wrote is read back, whatever bytes follow it: the floor word, every held generation, and how many words there are.
 use mathlib.Core.Path.{_≡_, refl, ap, _∙_}
-use mathlib.Core.Bool.{true, cond}
-use mathlib.Core.List.{List, [], _∷_, _++_, append-assoc}
+use mathlib.Core.Bool.{true}
+use mathlib.Core.List.{List, [], _∷_, _++_, map, append-assoc}
 use mathlib.Core.Option.{some}
 use Prim.Native.Nat.{ℕ, zero, suc, _+_, _-_, _/_, _≤_}
 use native.Mathlib.Omega.{arith}
@@ -9,11 +9,12 @@ use lib.Dec.{leb, eqb}
 use lib.ListN.{length, length-append}
 use lib.Seq.{take-at, drop-at}
 use borrow.Author.Tests.{le-leb, ne-eqb}
+use Rattle.runs.specs.Chunks.{flat}
 use Rattle.runs.proofs.Cases.{by-test}
 use Rattle.model.specs.Class.{each}
 use Rattle.model.specs.Generation.{Generation, count, held}
 use Rattle.model.specs.Register.{Ring, Register}
-use Rattle.model.specs.Dump.{words-in, dumped-floor, fingerprints, held-generations, generations-words, class-words, dump-words, dump-bytes, Dumped, Dump}
+use Rattle.model.specs.Dump.{words-in, dumped-floor, fingerprints, held-list, generation-words, class-words, dump-words, dump-bytes, Dumped, Dump}
 use Rattle.model.specs.Dump.{found-first, read-generations, read-class, read-own, read-peers, read-feeders, read-words, read-dump}
 use Rattle.model.specs.RoundTrip.{Words64}
 use Rattle.model.proofs.BytesRead.{words-of-bytes}
@@ -23,8 +24,8 @@ abbrev pub as-dumped : Generation → Dumped
 as-dumped g = record { bucket = g .bucket; newest = g .newest; prints = fingerprints (g .slots) }
 
 unfoldable pub dumped-of : Ring → List Dumped
-dumped-of [] = []
-dumped-of (g ∷ gs) = cond (eqb (held g) 0) (dumped-of gs) (as-dumped g ∷ dumped-of gs)
+unfolding held-list
+dumped-of ring = map as-dumped (held-list ring)
 
 abbrev pub dump-of : Register → Dump
 dump-of reg = record { floor = dumped-floor (reg .floor); classes = each dumped-of (reg .rings); words = length (dump-words reg) }
@@ -53,45 +54,29 @@ read-one most n b t l fps more e =
     let less : suc n - 1 ≡ n = omega arith in
     rw (ne-eqb (suc n) 0 (λ z. omega arith), enough, less, take-at fps more l e, drop-at fps more l e)
 
-first-back : (g : Generation) (gs : Ring) (most : ℕ) (rest : List ℕ) → suc (held-generations gs) ≤ most
-    → ((m : ℕ) → held-generations gs ≤ m → read-generations m (held-generations gs) (generations-words gs ++ rest) ≡ some (record { found = dumped-of gs; rest = rest }))
-    → read-generations most (suc (held-generations gs)) (g .bucket ∷ g .newest ∷ held g ∷ ((fingerprints (g .slots) ++ generations-words gs) ++ rest))
-    ≡ some (record { found = as-dumped g ∷ dumped-of gs; rest = rest })
-unfolding found-first
-first-back g gs zero rest h back = absurd (omega arith)
-first-back g gs (suc m) rest h back =
-    rw append-assoc
-    (read-one m (held-generations gs) (g .bucket) (g .newest) (held g) (fingerprints (g .slots)) (generations-words gs ++ rest) (prints-length (g .slots))
-    ∙ ap (found-first (as-dumped g)) (back m (omega arith)))
-
-read-back : (ring : Ring) (most : ℕ) (rest : List ℕ) → held-generations ring ≤ most
-    → read-generations most (held-generations ring) (generations-words ring ++ rest) ≡ some (record { found = dumped-of ring; rest = rest })
-unfolding held-generations generations-words dumped-of
+read-back : (gs : List Generation) (most : ℕ) (rest : List ℕ) → length gs ≤ most
+    → read-generations most (length gs) (flat generation-words gs ++ rest) ≡ some (record { found = map as-dumped gs; rest = rest })
+unfolding flat found-first
 read-back [] most rest h = read-none most rest
-read-back (g ∷ gs) most rest h =
-    by-test (eqb (held g) 0)
-    (λ e.
-    let z : 0 + held-generations gs ≡ held-generations gs = omega arith in
-    let h₁ : held-generations gs ≤ most = omega (arith, simp e at h) in
-    simp (e, z) (read-back gs most rest h₁))
-    (λ e.
-    let z : 1 + held-generations gs ≡ suc (held-generations gs) = omega arith in
-    let h₁ : 1 + held-generations gs ≤ most = simp e at h in
-    simp (e, z) (first-back g gs most rest (omega arith) (λ m k. read-back gs m rest k)))
+read-back (g ∷ gs) zero rest h = absurd (omega arith)
+read-back (g ∷ gs) (suc m) rest h =
+    rw append-assoc
+    (read-one m (length gs) (g .bucket) (g .newest) (held g) (fingerprints (g .slots)) (flat generation-words gs ++ rest) (prints-length (g .slots))
+    ∙ ap (found-first (as-dumped g)) (read-back gs m rest (omega arith)))
 
 -- each generation has three words at least, so there are enough to bound how many are read
-few : (ring : Ring) (rest : List ℕ) → held-generations ring ≤ length (generations-words ring ++ rest)
-unfolding held-generations generations-words
+few : (gs : List Generation) (rest : List ℕ) → length gs ≤ length (flat generation-words gs ++ rest)
+unfolding flat
 few [] rest = omega arith
 few (g ∷ gs) rest =
     let k = few gs rest in
-    let l = length-append (generations-words gs) rest in
-    by-test (eqb (held g) 0) (λ e. simp e (omega arith))
-    (λ e. simp e (let m = length-append (fingerprints (g .slots)) (generations-words gs) in rw length-append (omega arith)))
+    let l = length-append (flat generation-words gs) rest in
+    let m = length-append (fingerprints (g .slots)) (flat generation-words gs) in
+    rw length-append (omega arith)
 
 class-back : (ring : Ring) (rest : List ℕ) → read-class (class-words ring ++ rest) ≡ some (record { found = dumped-of ring; rest = rest })
-unfolding read-class class-words
-class-back ring rest = read-back ring (length (generations-words ring ++ rest)) rest (few ring rest)
+unfolding read-class class-words dumped-of
+class-back ring rest = let gs = held-list ring in read-back gs (length (flat generation-words gs ++ rest)) rest (few gs rest)
 
 -- ---- the whole of it
 words-back : (reg : Register) (rest : List ℕ) → read-words (dump-words reg ++ rest) ≡ some (dump-of reg)

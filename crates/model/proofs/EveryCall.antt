@@ -19,7 +19,7 @@ use Rattle.model.specs.Judge.{Ask}
 use Rattle.model.specs.Words.{State}
 use Rattle.model.specs.Codes.{went-through}
 use Rattle.model.specs.Calls.{Manner, judged, judged-batch, taken, taken-batch, Deed, Ticket, ContainsHash, Begin, Sweep, DumpTo, Restore, Resume, Floor, Pending}
-use Rattle.model.specs.Calls.{SweptBucket, Call, Open, On, Expire, SetLimits, Close, HeldBy, ClassTotals, no-register, register-at, opened, yes-no, floor-answer}
+use Rattle.model.specs.Calls.{SweptBucket, ViewRegister, ViewDeliverer, Call, Open, On, Expire, SetLimits, Close, HeldBy, ClassTotals, no-register, register-at, opened, yes-no, floor-answer}
 use Rattle.model.specs.Calls.{ask-of, proven-of, asked, after-judged, after-taken, after-restored, restored, resumed, least-published, class-totals, opens, beyond}
 use Rattle.model.specs.Calls.{deed-fits, deed-refusals, done-on, meaning, codes-fit}
 use Rattle.model.specs.Refusals.{in-order}
@@ -188,6 +188,7 @@ deed-lawful r (Resume bytes flag floor) = calm (record {
 deed-lawful r Floor = reader refl (λ s t. refl) (λ s t. floor-through (register-at r t .floor)) (λ s t. refl)
 deed-lawful r Pending = reader refl (λ s t. refl) (λ s t. yes-no-through (register-at r t .pending)) (λ s t. refl)
 deed-lawful r SweptBucket = reader refl (λ s t. refl) (λ s t. refl) (λ s t. refl)
+deed-lawful r (ViewRegister out) = reader refl (λ s t. refl) (λ s t. refl) (λ s t. refl)
 
 -- ---- every call
 pub lawful : (call : Call) → Lawful (meaning call)
@@ -233,3 +234,4 @@ lawful Close = on-book (record {
 })
 lawful (HeldBy kind number) = reader refl (λ s t. refl) (λ s t. refl) (λ s t. refl)
 lawful (ClassTotals c) = reader refl (λ s t. refl) (λ s t. refl) (λ s t. refl)
+lawful (ViewDeliverer kind number out) = reader refl (λ s t. refl) (λ s t. refl) (λ s t. refl)

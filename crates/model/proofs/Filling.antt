@@ -9,7 +9,7 @@ use lib.ListN.{length}
 use lib.Pow.{pow-add, pow-mono}
 use borrow.Author.Tests.{eqb-true, eqb-false, leb-true, leb-false, ne-eqb}
 use Rattle.runs.proofs.Cases.{by-test, split-if}
-use Rattle.model.specs.Generation.{Generation, count, among, as-read, slots-for, insert}
+use Rattle.model.specs.Generation.{Generation, empty, count, among, as-read, slots-for, insert}
 use Rattle.model.specs.Dump.{Dumped, fingerprints}
 use Rattle.model.proofs.Probing.{Found}
 use Rattle.model.proofs.Growth.{Doubled, slots-law, inserted}
@@ -76,10 +76,10 @@ pub record Filling (most : ℕ) (d : Dumped) (all rest : List ℕ) (g : Generati
   pub prints : (y : ℕ) → 0 < y → (among y (g .slots) || among y rest) ≡ among y all
   pub newest : g .newest ≤ d .newest
 
-pub empty-filling : (most : ℕ) (d : Dumped) (all : List ℕ) (bucket : ℕ) → Power most → 4 * length all ≤ 3 * most → 1 ≤ most
-    → Filling most d all all (record { bucket = bucket; newest = 0; slots = [] })
+pub empty-filling : (most : ℕ) (d : Dumped) (all : List ℕ) → Power most → 4 * length all ≤ 3 * most → 1 ≤ most
+    → Filling most d all all empty
 unfolding count among
-empty-filling most d all bucket p h l = record {
+empty-filling most d all p h l = record {
   bucket = λ z. absurd (omega arith);
   found = record { lies = λ j z. absurd (omega arith) };
   power = record { exponent = 0; is = refl };

@@ -14,7 +14,7 @@ use Rattle.runs.proofs.Cases.{by-test, no, each-true}
 use Rattle.runs.proofs.Words.{all-same}
 use Rattle.model.specs.declared.Probe.the-variants.{Held}
 use Rattle.model.specs.Settings.{power-of-two}
-use Rattle.model.specs.Generation.{Generation, empty, count, among, put, doubled, slots-for, refill, grown, insert, dropped}
+use Rattle.model.specs.Generation.{Generation, empty, count, among, put, doubled, slots-for, refill, grown, insert, oldest-with, dropped}
 use Rattle.model.specs.GenerationWords.{reached-from, filled-sound, GenerationOk}
 use Rattle.model.proofs.Probing.{Found, found-all, all-found, index, put-length, put-found, put-among, put-count, count-held, count≤}
 
@@ -269,11 +269,11 @@ inserted b fp stamp g p f =
 
 -- ---- well-formed generations: an empty one, one that is dropped, and one that a fingerprint is inserted into
 pub empty-ok : (S n i : ℕ) → GenerationOk S n i empty
-empty-ok S n i = record { fits = omega arith; shape = refl }
+empty-ok S n i = record { fits = omega arith; aged = omega arith; shape = refl }
 
 pub dropped-ok : (S n i : ℕ) (g : Generation) → GenerationOk S n i (dropped g)
 unfolding dropped
-dropped-ok S n i g = record { fits = omega arith; shape = refl }
+dropped-ok S n i g = record { fits = omega arith; aged = omega arith; shape = refl }
 
 pub among-count : (x : ℕ) (s : List ℕ) → 0 < x → among x s ≡ true → 1 ≤ count s
 unfolding among count
@@ -311,6 +311,10 @@ module _ (S n i : ℕ) (g : Generation) (ok : GenerationOk S n i g) where
       ok-ways (λ e z. (0, rw e refl))
       (λ p a b c r. let x = exponent (length (g .slots)) p in (x .0, (let k = count≤ (g .slots) in omega arith) ∙ x .2))
 
+  -- the oldest stamp stays at or below the newest
+  oldest-kept : (stamp : ℕ) → oldest-with stamp g ≤ max (g .newest) stamp
+  oldest-kept stamp = let a = ok .aged in by-test (eqb (count (g .slots)) 0) (λ e. rw e (omega arith)) (λ e. rw e (omega arith))
+
   -- whatever was at the position: the new fingerprint's bucket has it now
   pub insert-ok : (b fp stamp : ℕ) → S ≤ 1_024 → 0 < fp → slots-for (among fp (g .slots)) (g .slots) ≤ S
       → GenerationOk S n (b % n) (insert b fp stamp g)
@@ -327,6 +331,7 @@ module _ (S n i : ℕ) (g : Generation) (ok : GenerationOk S n i g) where
       let some : 1 ≤ count after = among-count fp after p holds in
       record {
         fits = omega arith;
+        aged = oldest-kept stamp;
         shape =
             rw (ne-eqb (length after) 0 (λ e. omega arith), power, le-leb 1 (count after) some, le-leb (4 * count after) (3 * length after) (ins .three-quarters), eq-eqb (b % n) (b % n) refl)
             (all-found after (ins .found));

@@ -61,3 +61,4 @@ pub mod BringsBack
 pub mod SameAnswers
 pub mod WorkedOnWords
 pub mod ToldApart
+pub mod ViewCases

@@ -163,6 +163,6 @@ unfolding compute-all
 above-the-limit = (refl, (refl, refl))
 
 -- ---- a well-formed generation that holds something
-held-seven : GenerationOk 2 2 1 (record { bucket = 5; newest = 5; slots = 0 ∷ 7 ∷ [] })
+held-seven : GenerationOk 2 2 1 (record { bucket = 5; oldest = 5; newest = 5; slots = 0 ∷ 7 ∷ [] })
 unfolding compute-all
-held-seven = record { fits = lit≤ tt; shape = refl }
+held-seven = record { fits = lit≤ tt; aged = lit≤ tt; shape = refl }

@@ -181,7 +181,7 @@ module _ (u : Usable) (b : Shares) (c : Class) (reg : Register) (k : Book) (is-o
       let l = prints-length (g .slots) in
       let at : generation-at ring (g .bucket) ≡ empty = rw position free in
       let positive : 1 ≤ most = omega arith in
-      let start = empty-filling most d fps 0 power (omega arith) positive in
+      let start = empty-filling most d fps power (omega arith) positive in
       let all = all-held u b c reg k is-open most power fit d fps (seconds-in u gs) fps ring ps 0 (rw position low) (prints-positive (g .slots))
       (subst (Filling most d fps fps) (sym at) start) (subst (λ (n : ℕ). 0 < length (replicate n (second-of (g .bucket) (u .bucket)) ++ seconds-in u gs)
       → RoomFor b (together (k .limits) c) c (replicate n (second-of (g .bucket) (u .bucket)) ++ seconds-in u gs) ps) (sym l) room) in

@@ -22,7 +22,7 @@ use Rattle.model.specs.RegisterWords.{register-form}
 use Rattle.model.specs.Words.{State, front-form, book-form, registers-form, state-form, of-state}
 use Rattle.model.specs.Calls.{On, DumpTo, Restore, Step, no-register, register-at, after-restored, restored, done-on, step, codes-fit, deed-fits, settings-words-fit}
 use Rattle.model.specs.Calls.{unfit, too-short, is-open, sound, unsound, no-such-register, is-cut, deed-refusals, own-refusals, first-met, held-in, refused, reply}
-use Rattle.model.specs.Calls.{output-of, dumped-by, output-after}
+use Rattle.model.specs.Calls.{output-of, written-by, output-after}
 use Rattle.model.specs.View.{kept-settings, view}
 use Rattle.model.specs.Codes.{went-through}
 use Rattle.model.specs.Soundness.{Vetted}
@@ -71,7 +71,7 @@ said-many st ws r out n e =
     (λ t. let q : Refused (refused st ws (On r (DumpTo out))) ≡ Dumped n = rw t at e in no (cc))
 
 pub wrote : (st ws : List ℕ) (r : ℕ) (out : List ℕ) (n : ℕ) → Words64 ws → reply st ws (On r (DumpTo out)) ≡ Dumped n → Written st ws r out n
-unfolding output-after output-of dumped-by is-open no-such-register
+unfolding output-after output-of written-by is-open no-such-register
 wrote st ws r out n small said =
     let call = On r (DumpTo out) in
     let s = settings-of st in

@@ -16,7 +16,7 @@ use Rattle.model.specs.Numbers.{top64, cap64}
 use Rattle.model.specs.Settings.{ring-of}
 use Rattle.model.specs.Generation.{held}
 use Rattle.model.specs.Register.{Ring, Register}
-use Rattle.model.specs.Dump.{dumped-floor, fingerprints, held-generations, generations-words, class-words, dump-words}
+use Rattle.model.specs.Dump.{dumped-floor, fingerprints, held-list, generation-words, class-words, dump-words}
 use Rattle.model.specs.GenerationWords.{encode-generation, GenerationOk}
 use Rattle.model.specs.RegisterWords.{encode-heading, register-form, of-register}
 use Rattle.model.specs.RoundTrip.{Words64}
@@ -48,21 +48,25 @@ unfolding fingerprints
 prints-small [] h = tt
 prints-small (x ∷ xs) h = split-if Words64 (eqb x 0) (λ e. prints-small xs (h .1)) (λ e. (h .0, prints-small xs (h .1)))
 
-few-held : (ring : Ring) → held-generations ring ≤ length ring
-unfolding held-generations
+few-held : (ring : Ring) → length (held-list ring) ≤ length ring
+unfolding held-list
 few-held [] = omega arith
 few-held (g ∷ gs) = by-test (eqb (held g) 0) (λ e. simp e (omega (arith, few-held gs))) (λ e. simp e (omega (arith, few-held gs)))
 
-generations-small : (S n i : ℕ) (ring : Ring) → EachOk (GenerationOk S n) i ring → Words64 (flat (encode-generation S) ring) → Words64 (generations-words ring)
-unfolding EachOk flat generations-words
+generations-small : (S n i : ℕ) (ring : Ring) → EachOk (GenerationOk S n) i ring → Words64 (flat (encode-generation S) ring) → Words64 (flat generation-words (held-list ring))
+unfolding EachOk flat held-list
 generations-small S n i [] ok w = tt
 generations-small S n i (g ∷ gs) ok w =
     let one = first-words (encode-generation S g) (flat (encode-generation S) gs) w in
     let rest = generations-small S n (suc i) gs (ok .1) (last-words (encode-generation S g) (flat (encode-generation S) gs) w) in
-    let pad = one .1 .1 .1 .1 in
+    let pad = one .1 .1 .1 .1 .1 in
     let slots : Words64 (g .slots) = first-words (g .slots) (replicate (S - length (g .slots)) 0) (rw (pad-fits S (g .slots) (ok .0 .fits)) at pad) in
-    split-if Words64 (eqb (held g) 0) (λ e. rest)
-    (λ e. (one .1 .1 .1 .0, (one .1 .1 .0, (one .1 .0, both-words (fingerprints (g .slots)) (generations-words gs) (prints-small (g .slots) slots) rest))))
+    by-test (eqb (held g) 0) (λ e. rw e rest)
+    (λ e.
+    rw e (
+      one .1 .1 .1 .0,
+      (one .1 .1 .0, (one .1 .0, both-words (fingerprints (g .slots)) (flat generation-words (held-list gs)) (prints-small (g .slots) slots) rest)),
+    ))
 
 ring-small : (u : Usable) → ring-of u ≤ top64
 unfolding ring-of cap64

@@ -12,7 +12,7 @@ use Rattle.model.specs.Settings.{settings-of, usable-at}
 use Rattle.model.specs.Book.{second-of}
 use Rattle.model.specs.Dump.{Dumped, Restoring, word-bytes, hold-all, restore-class}
 use Rattle.model.specs.Calls.{Manner, judged, judged-batch, taken, taken-batch, Ticket, ContainsHash, Begin, Sweep, DumpTo, Resume, Floor, Pending, SweptBucket}
-use Rattle.model.specs.Calls.{Call, Open, On, Expire, HeldBy, ClassTotals, only-reads, register-at, held-in}
+use Rattle.model.specs.Calls.{ViewRegister, Call, Open, On, Expire, HeldBy, ClassTotals, ViewDeliverer, only-reads, register-at, held-in}
 use Rattle.model.specs.View.{answered, left-by, words-after}
 use Rattle.model.specs.Once.{Answered, moments}
 use Rattle.model.specs.SameAnswers.{served, answers-from}
@@ -22,8 +22,8 @@ use Rattle.model.specs.Floors.{forgotten-among, compute-floors}
 use Rattle.model.specs.FailureRaises.{begun}
 use Rattle.model.proofs.NotVacuous.{compute-all, settings, words, given, open-at, opened-words, ask, three-more, nothing-proven}
 
--- ---- the calls that only read (specs/ReadersLeave), on any register, of any numbers and any output. These seven do: `contains_hash`, dump,
--- floor, pending, swept, held and totals. One of them goes through; a sweep does not only read
+-- ---- the calls that only read (specs/ReadersLeave), on any register, of any numbers and any output. These do: `contains_hash`, dump, floor,
+-- pending, swept, held, totals and the two views. One of them goes through; a sweep does not only read
 abbrev readers : (r n m : ℕ) → List ℕ → List Call
 readers r n m out =
     On r (ContainsHash n)
@@ -33,9 +33,11 @@ readers r n m out =
     ∷ On r SweptBucket
     ∷ HeldBy n m
     ∷ ClassTotals n
+    ∷ On r (ViewRegister out)
+    ∷ ViewDeliverer n m out
     ∷ []
 
-pub they-read : (r n m : ℕ) (out : List ℕ) → map only-reads (readers r n m out) ≡ replicate 7 true
+pub they-read : (r n m : ℕ) (out : List ℕ) → map only-reads (readers r n m out) ≡ replicate 9 true
 unfolding only-reads
 they-read r n m out = refl
 

@@ -7,7 +7,7 @@ use borrow.Author.Tests.{eq-eqb}
 use Rattle.model.specs.declared.Verdict.{Verdict}
 use Rattle.model.specs.declared.Verdict.the-variants.{New, Duplicate, Late, Ahead, Full, Unjudged}
 use Rattle.model.specs.declared.Answer.{Answer}
-use Rattle.model.specs.declared.Answer.the-variants.{Refused, Done, Said, Yes, No, Begun, Already, Dumped, Whole, Partly, NoFloor, FloorAt, SweptTo, Entries, Totals}
+use Rattle.model.specs.declared.Answer.the-variants.{Refused, Done, Said, Yes, No, Begun, Already, Dumped, Viewed, Whole, Partly, NoFloor, FloorAt, SweptTo, Entries, Totals}
 use Rattle.runs.proofs.Cases.{by-test, no}
 use Rattle.model.specs.Settings.{settings-of}
 use Rattle.model.specs.Codes.{verdict-number, answer-number, went-through}
@@ -44,6 +44,7 @@ through-number No t = refl
 through-number Begun t = refl
 through-number Already t = refl
 through-number (Dumped n) t = refl
+through-number (Viewed n) t = refl
 through-number (Whole n) t = refl
 through-number (Partly n) t = refl
 through-number NoFloor t = refl

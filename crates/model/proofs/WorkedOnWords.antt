@@ -15,7 +15,7 @@ use Rattle.model.specs.Class.{compute-class}
 use Rattle.model.specs.Dump.{bytes-of, word-bytes, dump-words, dump-bytes}
 use Rattle.model.specs.Codes.{compute-codes, went-through}
 use Rattle.model.specs.Calls.{compute-calls, Call, Open, On, DumpTo, register-at, unfit, too-short, unsound, is-open, no-such-register, own-refusals, first-met, held-in}
-use Rattle.model.specs.Calls.{refused, reply, output-of, dumped-by, written-over, output-after}
+use Rattle.model.specs.Calls.{refused, reply, output-of, written-by, written-over, output-after}
 use Rattle.model.specs.View.{holding}
 use Rattle.model.specs.SameAnswers.{answers-from, answers-on, words-left, SameOn}
 use Rattle.model.specs.Worked.{settings, open-ample, open-twelve, before, last, Case, cases, P1, strikes, slots-in, slots-holding, numbers, dumped, dumped-paper, Outcome, outcome, paper}
@@ -96,7 +96,7 @@ module _ (ws : List ℕ) (long : words-needed (settings-of settings) ≤ length 
   said = ap (λ (l : List Answer). getD l 2 Done) (ample _ .answers) ∙ said-paper
 
   written : output-after settings (words-left settings ws P1) dump-call ≡ flat word-bytes dumped-paper
-  unfolding output-after output-of dumped-by dump-bytes
+  unfolding output-after output-of written-by dump-bytes
   written =
       let p = said-many settings (words-left settings ws P1) 0 (replicate 64 0) 64 said in
       rw (p .0, ample _ .holds, dump-paper) sixty-four
@@ -109,7 +109,7 @@ worked-on-words ws long = record {
   dump = written ws long;
 }
 
--- on 1,856 words, all of them 5
-pub on-fives : WorkedOn (replicate 1_856 5)
+-- on 1,928 words, all of them 5
+pub on-fives : WorkedOn (replicate 1_928 5)
 unfolding compute-numbers compute-settings
-on-fives = worked-on-words (replicate 1_856 5) (lit≤ tt)
+on-fives = worked-on-words (replicate 1_928 5) (lit≤ tt)

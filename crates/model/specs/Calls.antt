@@ -6,7 +6,7 @@ use mathlib.Core.Option.{Option, none, some}
 use lib.Dec.{leb, ltb, eqb}
 use lib.ListN.{length, getD, set, take, drop, replicate}
 use Rattle.model.specs.declared.Answer.{Answer}
-use Rattle.model.specs.declared.Answer.the-variants.{Refused, Done, Said, Yes, No, Begun, Already, Dumped, Whole, Partly, NoFloor, FloorAt, SweptTo, Entries, Totals}
+use Rattle.model.specs.declared.Answer.the-variants.{Refused, Done, Said, Yes, No, Begun, Already, Dumped, Viewed, Whole, Partly, NoFloor, FloorAt, SweptTo, Entries, Totals}
 use Rattle.model.specs.declared.Settings.{Settings}
 use Rattle.model.specs.Numbers.{compute-numbers}
 use Rattle.model.specs.Settings.{settings-width, settings-of, limits-width, limits-of, limits-fit, settings-fit, usable-at, words-needed, compute-settings}
@@ -18,6 +18,7 @@ use Rattle.model.specs.Register.{Register, any-class, holds-any, sweep, 
 use Rattle.model.specs.Judge.{Ask, Judgement, judge, judge-batch, Taken, take-batch, compute-judge}
 use Rattle.model.specs.Judge.{take as take-ticket}
 use Rattle.model.specs.Dump.{dump-bytes, Dump, read-dump, Restoring, restore, resume, compute-dump}
+use Rattle.model.specs.RawViews.{deliverer-view, register-view, compute-raw-views}
 use Rattle.model.specs.Words.{State, front-spare, unused-width, state-form}
 
 -- ---- calls, with every number as the host passes it
@@ -45,6 +46,8 @@ pub data Deed : Type 0 where
   -- the bytes, 1 where a floor is proven, and that floor
   Resume : List ℕ → ℕ → ℕ → Deed
   Floor Pending SweptBucket : Deed
+  -- the output's words as they are lent
+  ViewRegister : List ℕ → Deed
 
 pub data Call : Type 0 where
   -- the limits, and for each of four registers a start's code and floor
@@ -55,6 +58,8 @@ pub data Call : Type 0 where
   Close : Call
   HeldBy : ℕ → ℕ → Call
   ClassTotals : ℕ → Call
+  -- a deliverer's kind and number, and the output's words as they are lent
+  ViewDeliverer : ℕ → ℕ → List ℕ → Call
 
 -- ---- what is done to a state that nothing refuses
 pub record Step : Type 0 where
@@ -176,6 +181,10 @@ is-cut (some d) = false
 abbrev pub restore-refusals : List ℕ → List Refusal
 restore-refusals bytes = refusal 7 (is-cut (read-dump bytes)) ∷ []
 
+-- 8: "view output too short"
+abbrev pub view-refusals : List ℕ → List ℕ → List Refusal
+view-refusals out view = refusal 8 (ltb (length out) (length view)) ∷ []
+
 abbrev pub no-refusals : List Refusal
 no-refusals = []
 
@@ -224,7 +233,7 @@ pub record Act : Type 0 where
   pub own : Register → List Refusal
   -- what it does to a state that nothing refuses
   pub does : Settings → ℕ → State → Step
-  -- the output that it is lent, and the bytes that it writes there
+  -- the output that it is lent, and the bytes or words that it writes there
   pub output : List ℕ
   pub writes : Register → List ℕ
   -- it only reads: no word is altered
@@ -266,6 +275,8 @@ act (Resume bytes flag floor) =
 act Floor = looks (λ s r t. floor-answer (register-at r t .floor))
 act Pending = looks (λ s r t. yes-no (register-at r t .pending))
 act SweptBucket = looks (λ s r t. SweptTo (register-at r t .swept) (published (usable-at s r) (register-at r t .swept)))
+act (ViewRegister out) =
+    shows true (λ reg. view-refusals out (register-view reg)) out register-view (λ s r t. Viewed (length (register-view (register-at r t))))
 
 unfoldable pub deed-fits : Deed → Bool
 unfolding act
@@ -316,6 +327,9 @@ makes fits kind leaves = record {
   kind = kind;
 }
 
+abbrev pub viewed-by : ℕ → ℕ → State → List ℕ
+viewed-by kind number t = deliverer-view (deliverer-of kind number) (t .book)
+
 unfoldable pub meaning : Call → Meaning
 meaning (Open limits starts) =
     makes (λ s. limits-words-fit limits && starts-fit s starts) (Opens limits starts) (λ s t. opened s limits starts)
@@ -334,6 +348,9 @@ meaning Close = makes (λ s. true) Other (λ s t. with-book (closed-book (t .boo
 meaning (HeldBy kind number) =
     tells (deliverer-fits kind number)
     (λ s t. let who = deliverer-of kind number in Entries (entries-of who (places-of (class-of who) (t .book))))
+meaning (ViewDeliverer kind number out) =
+    shows-all (λ s. deliverer-fits kind number) (λ s t. view-refusals out (viewed-by kind number t)) out (viewed-by kind number)
+    (λ s t. Viewed (length (viewed-by kind number t)))
 meaning (ClassTotals c) = tells (class-fits c) (λ s t. class-totals s (pick (class-at c) (t .book .classes)))
 
 unfoldable pub codes-fit : Settings → Call → Bool
@@ -352,9 +369,9 @@ unfoldable pub output-of : Call → List ℕ
 unfolding meaning act
 output-of call = meaning call .output
 
-unfoldable pub dumped-by : Call → State → List ℕ
+unfoldable pub written-by : Call → State → List ℕ
 unfolding meaning act
-dumped-by call t = meaning call .writes t
+written-by call t = meaning call .writes t
 
 unfoldable pub only-reads : Call → Bool
 unfolding meaning act
@@ -404,7 +421,7 @@ refusals-of s call t = refusal 4 (no-such-register s call) ∷ own-refusals s ca
 unfoldable pub held-in : Settings → List ℕ → State
 held-in s ws = state-form s .read (take (words-needed s) ws)
 
--- "Tried in the order 1, 2, 3, 4, 6, 5, 7."
+-- "Tried in the order 1, 2, 3, 4, 6, 5, 7"; 8 "tried after 4"
 abbrev pub refusals : List ℕ → List ℕ → Call → List Refusal
 refusals st ws call =
     refusal 1 (unfit st call) ∷ refusal 2 (too-short st ws) ∷ refusal 3 (unsound st ws call)
@@ -427,18 +444,18 @@ after st ws call =
 
 -- "Output past what a call writes keeps its content."
 abbrev pub written-over : List ℕ → List ℕ → List ℕ
-written-over bytes out = bytes ++ drop (length bytes) out
+written-over what out = what ++ drop (length what) out
 
 unfoldable pub output-after : List ℕ → List ℕ → Call → List ℕ
 output-after st ws call =
-    cond (eqb (refused st ws call) 0) (written-over (dumped-by call (held-in (settings-of st) ws)) (output-of call)) (output-of call)
+    cond (eqb (refused st ws call) 0) (written-over (written-by call (held-in (settings-of st) ws)) (output-of call)) (output-of call)
 
 -- the rules of this file, for a theorem that computes
 unfoldable pub compute-calls : ℕ
-unfolding start-all opened after-judged after-taken asked after-restored restored resumed least-published class-totals start-fits-at starts-fit limits-words-fit is-cut manner-sort opens beyond act deed-fits deed-refusals done-on meaning codes-fit own-refusals step output-of dumped-by only-reads kind is-open no-such-register settings-words-fit unfit too-short sound unsound first-met held-in refused reply after output-after
+unfolding start-all opened after-judged after-taken asked after-restored restored resumed least-published class-totals start-fits-at starts-fit limits-words-fit is-cut manner-sort opens beyond act deed-fits deed-refusals done-on meaning codes-fit own-refusals step output-of written-by only-reads kind is-open no-such-register settings-words-fit unfit too-short sound unsound first-met held-in refused reply after output-after
 compute-calls = 0
 
 -- the rules of all files
 unfoldable pub compute-rules : ℕ
-unfolding compute-numbers compute-settings compute-class compute-generation compute-book compute-register compute-judge compute-dump compute-codes compute-calls
+unfolding compute-numbers compute-settings compute-class compute-generation compute-book compute-register compute-judge compute-dump compute-codes compute-raw-views compute-calls
 compute-rules = 0

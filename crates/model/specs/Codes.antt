@@ -10,7 +10,7 @@ use Rattle.model.specs.declared.Start.the-variants.{Empty, Fallback, At}
 use Rattle.model.specs.declared.Draw.{Draw}
 use Rattle.model.specs.declared.Draw.the-variants.{Granted, Closed, OwnShare, ClassLimit, EqualPart, TwiceLimit, Places, Pairs}
 use Rattle.model.specs.declared.Answer.{Answer}
-use Rattle.model.specs.declared.Answer.the-variants.{Refused, Done, Said, Yes, No, Begun, Already, Dumped, Whole, Partly, NoFloor, FloorAt, SweptTo, Entries, Totals}
+use Rattle.model.specs.declared.Answer.the-variants.{Refused, Done, Said, Yes, No, Begun, Already, Dumped, Viewed, Whole, Partly, NoFloor, FloorAt, SweptTo, Entries, Totals}
 
 -- ---- codes that a call brings
 -- a flag: 0 or 1
@@ -61,6 +61,7 @@ outgoing No = with-values (0 ∷ [])
 outgoing Begun = with-values (1 ∷ [])
 outgoing Already = with-values (0 ∷ [])
 outgoing (Dumped n) = with-values (n ∷ [])
+outgoing (Viewed n) = with-values (n ∷ [])
 outgoing (Whole n) = with-values (1 ∷ n ∷ [])
 outgoing (Partly n) = record { number = 0; values = 0 ∷ n ∷ []; through = true; partly = true }
 outgoing NoFloor = with-values (0 ∷ 0 ∷ [])

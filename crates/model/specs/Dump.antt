@@ -16,7 +16,7 @@ use Rattle.model.specs.declared.Shares.{Shares}
 use Rattle.runs.specs.Chunks.{flat}
 use Rattle.model.specs.Numbers.{if_then_else_, cap64, raise}
 use Rattle.model.specs.Class.{Each, pick, swap}
-use Rattle.model.specs.Generation.{held, as-read, dropped}
+use Rattle.model.specs.Generation.{Generation, held, as-read, dropped}
 use Rattle.model.specs.Book.{Book, second-of, granted, draw-says, drawn, undrawn}
 use Rattle.model.specs.Register.{Ring, Register, with-floor, with-rings, generation-at, with-generation, strike}
 use Rattle.model.specs.Judge.{make-room}
@@ -53,19 +53,18 @@ unfoldable pub fingerprints : List ℕ → List ℕ
 fingerprints [] = []
 fingerprints (x ∷ xs) = cond (eqb x 0) (fingerprints xs) (x ∷ fingerprints xs)
 
-unfoldable pub held-generations : Ring → ℕ
-held-generations [] = 0
-held-generations (g ∷ gs) = cond (eqb (held g) 0) 0 1 + held-generations gs
+-- "held generations by position": those of a class in dump sequence. A register's view reads this list too
+unfoldable pub held-list : Ring → List Generation
+held-list [] = []
+held-list (g ∷ gs) = cond (eqb (held g) 0) (held-list gs) (g ∷ held-list gs)
 
--- "held generations by position: bucket, newest, length, fingerprints by slot"
-unfoldable pub generations-words : Ring → List ℕ
-generations-words [] = []
-generations-words (g ∷ gs) =
-    cond (eqb (held g) 0) (generations-words gs) (g .bucket ∷ g .newest ∷ held g ∷ fingerprints (g .slots) ++ generations-words gs)
+-- "bucket, newest, length, fingerprints by slot"
+abbrev pub generation-words : Generation → List ℕ
+generation-words g = g .bucket ∷ g .newest ∷ held g ∷ fingerprints (g .slots)
 
 -- "per class a count, then .."
 unfoldable pub class-words : Ring → List ℕ
-class-words r = held-generations r ∷ generations-words r
+class-words r = length (held-list r) ∷ flat generation-words (held-list r)
 
 unfoldable pub dump-words : Register → List ℕ
 dump-words reg =
@@ -215,5 +214,5 @@ resume u b d proven reg book =
 
 -- the rules of this file, for a theorem that computes
 unfoldable pub compute-dump : ℕ
-unfolding flat number-of bytes-of words-in dumped-floor fingerprints held-generations generations-words class-words dump-words dump-bytes found-first read-generations read-class read-own read-peers read-feeders read-words read-dump hold-room hold-one hold-all undrawn-all drop-bucket failed settled restore-class raised-to-dumped restore raised-to-proven resume
+unfolding flat number-of bytes-of words-in dumped-floor fingerprints held-list class-words dump-words dump-bytes found-first read-generations read-class read-own read-peers read-feeders read-words read-dump hold-room hold-one hold-all undrawn-all drop-bucket failed settled restore-class raised-to-dumped restore raised-to-proven resume
 compute-dump = 0

@@ -1,5 +1,5 @@
 -- "Judge and take", second paragraph: a generation's slots, probing, growth and insertion. A slot of 0 is empty.
-use Prim.Native.Nat.{ℕ, zero, suc, _+_, _*_, _%_, max}
+use Prim.Native.Nat.{ℕ, zero, suc, _+_, _*_, _%_, max, min}
 use mathlib.Core.Bool.{Bool, false, cond, _||_}
 use mathlib.Core.List.{List, [], _∷_}
 use lib.Dec.{leb, eqb}
@@ -7,14 +7,16 @@ use lib.ListN.{length, getD, set, replicate}
 use Rattle.model.specs.declared.Probe.{Probe}
 use Rattle.model.specs.declared.Probe.the-variants.{Held, Free, Nowhere}
 
--- The fingerprints of one bucket. As many slots as it has are listed; what it holds is counted from them.
+-- The fingerprints of one bucket. As many slots as it has are listed; what it holds is counted from them. Of the stamps that were
+-- inserted it has the oldest and the newest, both 0 where it holds nothing.
 pub record Generation : Type 0 where
   pub bucket : ℕ
+  pub oldest : ℕ
   pub newest : ℕ
   pub slots : List ℕ
 
 abbrev pub empty : Generation
-empty = record { bucket = 0; newest = 0; slots = [] }
+empty = record { bucket = 0; oldest = 0; newest = 0; slots = [] }
 
 -- ---- what slots hold
 unfoldable pub count : List ℕ → ℕ
@@ -74,17 +76,23 @@ refill (x ∷ xs) s = refill xs (cond (eqb x 0) s (put s x))
 unfoldable pub grown : ℕ → List ℕ → List ℕ
 grown wanted s = cond (eqb wanted (length s)) s (refill s (replicate wanted 0))
 
+-- ---- "every generation must now remember its oldest inserted stamp" (request Q-1): the first one's, and then the smaller of itself
+-- and the stamp. A stamp of 0 is a stamp: the first insertion is told by nothing being held.
+abbrev pub oldest-with : ℕ → Generation → ℕ
+oldest-with stamp g = cond (eqb (held g) 0) stamp (min (g .oldest) stamp)
+
 -- ---- "else it inserts, and newest becomes the larger of itself and the stamp"
 unfoldable pub insert : ℕ → ℕ → ℕ → Generation → Generation
 insert bucket fp stamp g = record {
   bucket = bucket;
+  oldest = oldest-with stamp g;
   newest = max (g .newest) stamp;
   slots = put (grown (slots-for (among fp (g .slots)) (g .slots)) (g .slots)) fp;
 }
 
 -- dropped: it holds nothing, and its bucket word stays
 unfoldable pub dropped : Generation → Generation
-dropped g = record { bucket = g .bucket; newest = 0; slots = [] }
+dropped g = record { bucket = g .bucket; oldest = 0; newest = 0; slots = [] }
 
 -- the rules of this file, for a theorem that computes
 unfoldable pub compute-generation : ℕ

@@ -1,5 +1,5 @@
 -- "Settings and soundness": a generation's words, and when they are sound.
--- Words: slots, held, newest, bucket, then S words of slots.
+-- Words: slots, held, newest, bucket, oldest, then S words of slots.
 use Prim.Native.Nat.{ℕ, suc, _-_, _*_, _%_, _≤_}
 use mathlib.Core.Path.{_≡_}
 use mathlib.Core.Bool.{Bool, true, false, cond, _&&_, _||_}
@@ -15,14 +15,14 @@ use Rattle.model.specs.Settings.{power-of-two}
 use Rattle.model.specs.Generation.{Generation, count, probe}
 
 abbrev pub encode-generation : ℕ → Generation → List ℕ
-encode-generation S g = length (g .slots) ∷ count (g .slots) ∷ g .newest ∷ g .bucket ∷ pad S (g .slots)
+encode-generation S g = length (g .slots) ∷ count (g .slots) ∷ g .newest ∷ g .bucket ∷ g .oldest ∷ pad S (g .slots)
 
 -- as many slots as it has
 abbrev pub live-slots : List ℕ → List ℕ
 live-slots ws = take (getD ws 0 0) (drop generation-head ws)
 
 abbrev pub read-generation : List ℕ → Generation
-read-generation ws = record { bucket = getD ws 3 0; newest = getD ws 2 0; slots = live-slots ws }
+read-generation ws = record { bucket = getD ws 3 0; oldest = getD ws 4 0; newest = getD ws 2 0; slots = live-slots ws }
 
 -- ---- the rules
 -- a slot is empty, or probing for what it holds ends there: so "its nonzero slots are distinct .. and every held fingerprint is
@@ -61,17 +61,22 @@ room-sound ws = leb (getD ws 0 0) (length ws - generation-head)
 abbrev pub tail-sound : List ℕ → Bool
 tail-sound ws = zeros (drop (generation-width (getD ws 0 0)) ws)
 
+-- "a sound generation has oldest ≤ newest" (request Q-1). So the oldest is "0 when empty", as the newest is 0 then
+abbrev pub age-sound : List ℕ → Bool
+age-sound ws = leb (getD ws 4 0) (getD ws 2 0)
+
 abbrev pub body-sound : ℕ → ℕ → List ℕ → Bool
 body-sound n i ws =
     cond (eqb (getD ws 0 0) 0) (empty-sound (getD ws 1 0) (getD ws 2 0))
     (filled-sound n i (getD ws 0 0) (getD ws 1 0) (getD ws 3 0) && slots-sound (live-slots ws) (getD ws 1 0))
 
 unfoldable pub generation-sound : ℕ → ℕ → List ℕ → Bool
-generation-sound n i ws = room-sound ws && (tail-sound ws && body-sound n i ws)
+generation-sound n i ws = room-sound ws && (tail-sound ws && (age-sound ws && body-sound n i ws))
 
 -- a well-formed generation of at most S slots, at position i of n
 pub record GenerationOk (S n i : ℕ) (g : Generation) : Type 0 where
   pub fits : length (g .slots) ≤ S
+  pub aged : g .oldest ≤ g .newest
   pub shape : cond (eqb (length (g .slots)) 0) (eqb (g .newest) 0)
       (filled-sound n i (length (g .slots)) (count (g .slots)) (g .bucket) && reached-from (g .slots) 0 (g .slots)) ≡ true
 

@@ -13,6 +13,7 @@ pub mod RegisterWords
 pub mod Words
 pub mod Most
 pub mod Codes
+pub mod RawViews
 pub mod Calls
 pub mod View
 pub mod Refusals

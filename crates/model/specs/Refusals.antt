@@ -1,4 +1,5 @@
 -- "Tried in the order 1, 2, 3, 4, 6, 5, 7. Each returns its number alone, alters nothing, and comes only in its condition."
+-- "Numbers that requests add join demand 1's seven": 8 is tried after 4, and no call has both 8 and one of the others' own.
 use Prim.Native.Nat.{ℕ}
 use mathlib.Core.Path.{_≡_}
 use mathlib.Core.Bool.{Bool, true, false, cond}
@@ -16,7 +17,7 @@ in-order (n ∷ ns) (x ∷ xs) = cond (eqb (x .number) n) (in-order ns xs) (in-o
 
 -- of a call's own refusals, and of all
 abbrev pub own-order : List ℕ
-own-order = 6 ∷ 5 ∷ 7 ∷ []
+own-order = 8 ∷ 6 ∷ 5 ∷ 7 ∷ []
 
 abbrev pub order : List ℕ
 order = 1 ∷ 2 ∷ 3 ∷ 4 ∷ own-order

@@ -2,9 +2,9 @@
 -- a place have. Said here alone; the code has the heads in the crate `numbers`, in its file `layout`.
 use Prim.Native.Nat.{ℕ, _+_, _*_}
 
--- a generation: slots, held, newest and bucket lead, then come S slots
+-- a generation: slots, held, newest, bucket and oldest lead, then come S slots
 abbrev pub generation-head : ℕ
-generation-head = 4
+generation-head = 5
 
 abbrev pub generation-width : ℕ → ℕ
 generation-width S = S + generation-head

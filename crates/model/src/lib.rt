@@ -71,6 +71,8 @@ pub enum Answer {
     Already,
     // The bytes that a dump wrote.
     Dumped(u64),
+    // The words that a view wrote.
+    Viewed(u64),
     // The bytes that a restore read.
     Whole(u64),
     Partly(u64),

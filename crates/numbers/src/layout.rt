@@ -75,4 +75,4 @@ pub const FLOOR: usize = 9;
 pub const PENDING: usize = 10;
 
 // ---- a generation: the words that lead it, and then S slots
-pub const GENERATION_HEAD: usize = 4;
+pub const GENERATION_HEAD: usize = 5;

@@ -15,7 +15,7 @@ use Rattle.runs.specs.Turns.{Turns}
 use Rattle.runs.proofs.Chunks.{flat-append}
 use Rattle.model.specs.Book.{Pair, total}
 use Rattle.model.specs.BookWords.{pair-words, read-pairs}
-use Rattle.model.proofs.BookWords.{length-read, length-pairs}
+use Rattle.model.proofs.BookWords.{length-read, length-pairs, flat-read}
 use Rattle.pairs.specs.declared.Passed.{Passed}
 use Rattle.pairs.specs.Pairs.{Cells, cells-words, before, passed-in, second-at, count-at, raise-at, lower-at, insert-at, remove-at, raised, lowered, inserted, removed, Holds, Takes, Loses}
 use Rattle.runs.proofs.Shifts.{mid-of, put-of}
@@ -119,6 +119,17 @@ count-is (suc k) (q ∷ qs) h = count-is k qs (omega arith)
 
 pub count-here : (n k : ℕ) (ws : List ℕ) → k < n → getD ws (2 * k + 1) 0 ≡ count-at k (read-pairs n ws)
 count-here n k ws h = let l = length-read n ws in count-word n k ws h ∙ count-is k (read-pairs n ws) (omega arith)
+
+-- ---- list: the words of the first n pairs are the first 2n words
+pub flat-taken : (n : ℕ) (ws : List ℕ) → 2 * n ≤ length ws → flat pair-words (read-pairs n ws) ≡ take (2 * n) ws
+flat-taken n ws h =
+    let qs = read-pairs n ws in
+    let l : length (flat pair-words qs) ≡ 2 * n = length-pairs qs ∙ rw length-read in
+    sym (take-at (flat pair-words qs) (drop (2 * n) ws) (2 * n) l) ∙ ap (take (2 * n)) (flat-read n ws h)
+
+pub lists : (n : ℕ) (ws out : List ℕ) {ys : List ℕ} → 2 * n ≤ length ws → ys ≡ take (2 * n - 0) ws
+    → ys ++ drop (2 * n - 0) out ≡ flat pair-words (read-pairs n ws) ++ drop (2 * n) out
+lists n ws out h is = let z : 2 * n - 0 ≡ 2 * n = omega arith in rw (is, z, flat-taken n ws h)
 
 -- ---- raise and lower
 pub raise-word : (k : ℕ) (qs : List Pair) (past : List ℕ) → k < length qs

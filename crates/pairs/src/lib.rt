@@ -7,11 +7,13 @@ use runs::moves;
 ghost use Prim.Native.Nat.{_+_, _*_, _≤_, _<_};
 ghost use mathlib.Core.Path.{_≡_};
 ghost use mathlib.Core.Bool.{_&&_};
-ghost use lib.ListN.{length};
+ghost use mathlib.Core.List.{_++_};
+ghost use lib.ListN.{length, drop};
 ghost use lib.Dec.{eqb};
+ghost use Rattle.runs.specs.Chunks.{flat};
 ghost use Rattle.runs.specs.Turns.{Turns};
 ghost use Rattle.model.specs.Book.{total};
-ghost use Rattle.model.specs.BookWords.{most-entries, read-pairs, pairs-sound as rising};
+ghost use Rattle.model.specs.BookWords.{most-entries, pair-words, read-pairs, pairs-sound as rising};
 ghost use Rattle.pairs.specs.Pairs.{cells-words, passed-in, second-at, Holds, Takes, Loses, raised, lowered, inserted, removed, count-at};
 
 // The pairs that are earlier than a second: how many, and their entries.
@@ -64,6 +66,15 @@ pub fn count(cells: &[u64], n: usize, k: usize) -> u64
 {
     let a = 2 * k + 1;
     cells[a]
+}
+
+// Writes the first n pairs at the start of `out`, of each its second and its count. What lies behind them stays.
+pub fn list(cells: &[u64], n: usize, out: &mut [u64])
+    requires { ⌜ (n ≤ 512) × (2 * n ≤ length (now cells)) × (2 * n ≤ length (now out)) ⌝ }
+    ensures { λ _. ⌜ now (out .exit) ≡ flat pair-words (read-pairs n (now (cells .entry))) ++ drop (2 * n) (now (out .entry)) ⌝ }
+{
+    let e = 2 * n;
+    runs::copy_words(&mut out[0..e], &cells[0..e]);
 }
 
 // The pair k counts one entry more.

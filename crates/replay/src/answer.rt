@@ -12,10 +12,10 @@ pub enum Said {
     Unread,
 }
 
-// Writes what a line says. Of a dump, `bytes` starts with what it wrote.
-pub(crate) fn tell(said: Said, bytes: &[u8]) {
+// Writes what a line says. Of a dump, `bytes` starts with what it wrote, and of a view `view`.
+pub(crate) fn tell(said: Said, bytes: &[u8], view: &[u64]) {
     match said {
-        Said::Told(answer) => tell_answer(answer, bytes),
+        Said::Told(answer) => tell_answer(answer, bytes, view),
         Said::Unread => tell_unread(),
     }
 }
@@ -25,17 +25,24 @@ pub(crate) fn tell_unread() {
     io::write_all(STDOUT_FILENO, b"unread\n");
 }
 
-fn tell_answer(answer: Answer, bytes: &[u8]) {
+fn tell_answer(answer: Answer, bytes: &[u8], view: &[u64]) {
     let mut text = [0u8; 4096];
     let at = put_answer(answer, &mut text);
     let n = line::most(dumped(answer), bytes.len());
-    let end = put_bytes(&bytes[0..n], &mut text, at);
+    let next = put_bytes(&bytes[0..n], &mut text, at);
+    let m = line::most(viewed(answer), view.len());
+    let end = put_words(&view[0..m], &mut text, next);
     end_line(&mut text, end);
 }
 
 // How many bytes a dump wrote; 0 of any other answer.
 fn dumped(answer: Answer) -> u64 {
     if let Answer::Dumped(n) = answer { n } else { 0 }
+}
+
+// How many words a view wrote; 0 of any other answer.
+fn viewed(answer: Answer) -> u64 {
+    if let Answer::Viewed(n) = answer { n } else { 0 }
 }
 
 // Puts a number and a blank into the text, and returns the place behind them.
@@ -84,6 +91,7 @@ fn put_answer(answer: Answer, text: &mut [u8; 4096]) -> usize
         Answer::Begun => put_one(text, 1),
         Answer::Already => put_one(text, 0),
         Answer::Dumped(n) => put_one(text, n),
+        Answer::Viewed(n) => put_one(text, n),
         Answer::Whole(n) => put_two(text, 1, n),
         Answer::Partly(n) => put_two(text, 0, n),
         Answer::NoFloor => put_two(text, 0, 0),
@@ -114,6 +122,21 @@ fn put_bytes(bytes: &[u8], text: &mut [u8; 4096], from: usize) -> usize
     while i < bytes.len() {
         let free = make_room(text, at);
         at = put(text, free, wide(bytes[i]));
+        i += 1;
+    }
+    at
+}
+
+// The same of words.
+fn put_words(words: &[u64], text: &mut [u8; 4096], from: usize) -> usize
+    requires { ⌜ (0 < from) × (from ≤ 4096) ⌝ }
+    ensures { λ r. ⌜ (0 < r) × (r ≤ 4096) ⌝ }
+{
+    let mut at = from;
+    let mut i = 0;
+    while i < words.len() {
+        let free = make_room(text, at);
+        at = put(text, free, words[i]);
         i += 1;
     }
     at

@@ -73,6 +73,7 @@ fn serve(
     lent: u64,
 ) -> u64 {
     let mut args = [0u64; 64];
+    let mut view = [0u64; 3072];
     let read = line::read(text, &mut args, bytes);
     if long | !read.ok {
         answer::tell_unread();
@@ -86,10 +87,11 @@ fn serve(
         kept,
         next,
         bytes,
+        &mut view,
         lent,
     );
     let said = ran.said;
-    answer::tell(said, bytes);
+    answer::tell(said, bytes, &view);
     ran.lent
 }
 

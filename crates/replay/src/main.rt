@@ -8,11 +8,11 @@
 //
 // CODE names the call (run.rt), N arguments follow, and what is left are the bytes that the call brings. Arguments come in the order of
 // docs/CALLS.md. A deliverer is its kind and its number, a start its code and its number, a proven floor 1 and the floor, or 0 and 0. A
-// dump has a register, and 1 and the length of its output, or 0 and 0. An opening has R, P, E and the two place units, five limits, and
+// dump has a register, and 1 and the length of its output, or 0 and 0; a view has the same behind its register or deliverer. An opening has R, P, E and the two place units, five limits, and
 // for each register six numbers and its start; settings have the same, with 0 and 0 for a start.
 //
 // A line of an answer is what an entry point of C gives: 0, or the refusal number, and then the out numbers; of a dump, its length and
-// then its bytes. A line that is no call is answered by `unread`, which no answer is.
+// then its bytes, and of a view how many words it has and then those. A line that is no call is answered by `unread`, which no answer is.
 mod answer;
 mod input;
 mod line;

@@ -45,6 +45,10 @@ const HELD: u64 = 18;
 
 const CLASS: u64 = 19;
 
+const VIEW_REGISTER: u64 = 20;
+
+const VIEW_DELIVERER: u64 = 21;
+
 const LEND: u64 = 101;
 
 const SETTINGS: u64 = 102;
@@ -58,7 +62,8 @@ pub struct Ran {
 }
 
 // Runs a line. `a` are its arguments, and the first `filled` of `bytes` its bytes. `kept` are the settings of the last opening that went
-// through, and `next` those that the next call brings. All of them are 0 before the first opening, which every call refuses.
+// through, and `next` those that the next call brings. All of them are 0 before the first opening, which every call refuses. `view` takes
+// the words of a view.
 pub(crate) fn run(
     code: u64,
     a: &[u64; 64],
@@ -67,6 +72,7 @@ pub(crate) fn run(
     kept: &mut [u64],
     next: &mut [u64],
     bytes: &mut [u8],
+    view: &mut [u64],
     lent: u64,
 ) -> Ran
     requires { ⌜ filled ≤ length (now bytes) ⌝ }
@@ -81,7 +87,7 @@ pub(crate) fn run(
         POKE => stays(poke(words, a[0], a[1]), lent),
         OPEN => stays(open(a, &mut words[0..n], kept, next), lent),
         _ => {
-            let said = call(code, a, filled, &mut words[0..n], next, bytes);
+            let said = call(code, a, filled, &mut words[0..n], next, bytes, view);
             copy_words(next, kept);
             stays(said, lent)
         }
@@ -170,6 +176,7 @@ fn call(
     words: &mut [u64],
     s: &[u64],
     bytes: &mut [u8],
+    view: &mut [u64],
 ) -> Said
     requires { ⌜ filled ≤ length (now bytes) ⌝ }
 {
@@ -185,7 +192,10 @@ fn call(
             SWEEP => strikes::sweep(s, words, a[0], a[1]),
             LIMITS => strikes::set_limits(s, words, &[a[0], a[1], a[2], a[3], a[4]]),
             CLOSE => strikes::close(s, words),
-            DUMP => dump(s, words, a[0], a[1], a[2], bytes),
+            DUMP => {
+                let n = output_length(a[1], a[2], bytes.len());
+                strikes::dump(s, words, a[0], &mut bytes[0..n])
+            }
             RESTORE => strikes::restore(s, words, a[0], &bytes[0..filled]),
             RESUME => strikes::resume(s, words, a[0], &bytes[0..filled], a[1], a[2]),
             FLOOR => strikes::floor(s, words, a[0]),
@@ -193,23 +203,25 @@ fn call(
             SWEPT => strikes::swept(s, words, a[0]),
             HELD => strikes::held(s, words, a[0], a[1]),
             CLASS => strikes::class_totals(s, words, a[0]),
+            VIEW_REGISTER => {
+                let n = output_length(a[1], a[2], view.len());
+                strikes::view_register(s, words, a[0], &mut view[0..n])
+            }
+            VIEW_DELIVERER => {
+                let n = output_length(a[2], a[3], view.len());
+                strikes::view_deliverer(s, words, a[0], a[1], &mut view[0..n])
+            }
             _ => return Said::Unread,
         },
     )
 }
 
-// A dump into an output of a given length, else of all bytes. An output longer than these takes no dump that these do not.
-fn dump(
-    s: &[u64],
-    words: &[u64],
-    register: u64,
-    given: u64,
-    length: u64,
-    bytes: &mut [u8],
-) -> Answer {
+// The length of an output: that which is given, else all of it. An output longer than that takes nothing that all of it does not.
+fn output_length(given: u64, length: u64, all: usize) -> usize
+    ensures { λ r. ⌜ r ≤ all ⌝ }
+{
     if given == 0 {
-        return strikes::dump(s, words, register, bytes);
+        return all;
     }
-    let n = line::most(length, bytes.len());
-    strikes::dump(s, words, register, &mut bytes[0..n])
+    line::most(length, all)
 }

@@ -18,6 +18,10 @@ firsts-are (suc n) i ws h =
     let e : i + suc n ≡ suc i + n = omega arith in
     drop-cons ws i 0 (omega arith) ∙ ap (λ (l : List ℕ). getD ws i 0 ∷ l) (rw e (firsts-are n (suc i) ws (omega arith)))
 
--- four words stored at the start of a run
+-- four words stored at the start of a run, and five
 pub stored-four : (ws : List ℕ) (a b c d : ℕ) → 4 ≤ length ws → set (set (set (set ws 0 a) 1 b) 2 c) 3 d ≡ a ∷ b ∷ c ∷ d ∷ drop 4 ws
 stored-four ws a b c d h = ap (λ (l : List ℕ). set (set (set (set l 0 a) 1 b) 2 c) 3 d) (firsts-are 4 0 ws h)
+
+pub stored-five : (ws : List ℕ) (a b c d e : ℕ) → 5 ≤ length ws
+    → set (set (set (set (set ws 0 a) 1 b) 2 c) 3 d) 4 e ≡ a ∷ b ∷ c ∷ d ∷ e ∷ drop 5 ws
+stored-five ws a b c d e h = ap (λ (l : List ℕ). set (set (set (set (set l 0 a) 1 b) 2 c) 3 d) 4 e) (firsts-are 5 0 ws h)

@@ -9,3 +9,4 @@ pub mod Parts
 pub mod Turns
 pub mod Walk
 pub mod Shifts
+pub mod Over

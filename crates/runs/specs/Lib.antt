@@ -3,3 +3,4 @@ pub mod Chunks
 pub mod Form
 pub mod Combine
 pub mod Turns
+pub mod Over

@@ -1,7 +1,7 @@
 -- What the first refusals mean for each kind of call, and what a call that passes them may use.
 use Prim.Native.Nat.{ℕ}
 use native.Mathlib.Omega.{arith}
-use mathlib.Core.Path.{_≡_, sym, _∙_}
+use mathlib.Core.Path.{_≡_, sym, _∙_, ap}
 use mathlib.Core.Bool.{Bool, true, false, not, _&&_, and-true, and-false}
 use mathlib.Core.List.{List, [], _∷_, _++_}
 use lib.Dec.{leb, eqb}
@@ -104,23 +104,32 @@ module _ (st ws : List ℕ) (codes : Bool) (r : ℕ) where
     unfolding refused admits unfit codes-fit unsound is-open no-such-register own-refusals first-own first-met
     refused-own e = let p = admits-pass e in let q = p .0 .unmet in rw (← same) (rw (q .0, q .1, q .2, p .1))
 
--- ---- a call on the book is no opening, names no register and has no refusal after 3
-pub record OnBook (call : Call) : Type 0 where
+-- ---- a call on the book is no opening and names no register
+pub record OfBook (call : Call) : Type 0 where
   pub shut : is-open call ≡ false
   pub unnumbered : (s : Settings) → no-such-register s call ≡ false
+
+-- and nothing refuses it after 3
+pub record OnBook (call : Call) : Type 0 where
+  pub of : OfBook call
   pub never : (s : Settings) (t : State) → own-refusals s call t ≡ no-refusals
 
-module _ (st ws : List ℕ) (codes : Bool) (call : Call) (on : OnBook call) (same : codes ≡ codes-fit (settings-of st) call) where
+module _ (st ws : List ℕ) (codes : Bool) (call : Call) (of : OfBook call) (same : codes ≡ codes-fit (settings-of st) call) where
   book-list : refused st ws call
       ≡ first-met (refusal 1 (not (settings-words-fit st && codes)) ∷ refusal 2 (too-short st ws) ∷ refusal 3 (not (sound (settings-of st) ws))
-      ∷ refusal 4 false ∷ [])
+      ∷ refusal 4 false ∷ own-refusals (settings-of st) call (held-in (settings-of st) ws))
   unfolding refused unfit unsound
-  book-list = rw (on .shut, on .unnumbered (settings-of st), on .never (settings-of st) (held-in (settings-of st) ws), ← same)
+  book-list = rw (of .shut, of .unnumbered (settings-of st), ← same)
 
   pub book-early : (n : ℕ) → n ≡ vets st ws codes → (n ≡ 0 → ⊥) → refused st ws call ≡ n
   unfolding vets
-  book-early n e h = book-list ∙ first-of (refusal 1 _ ∷ refusal 2 _ ∷ refusal 3 _ ∷ []) (refusal 4 _ ∷ []) n (sym e) h
+  book-early n e h = book-list ∙ first-of (refusal 1 _ ∷ refusal 2 _ ∷ refusal 3 _ ∷ []) (refusal 4 _ ∷ own-refusals _ _ _) n (sym e) h
 
-  pub book-never : vets st ws codes ≡ 0 → refused st ws call ≡ 0
-  unfolding first-met
-  book-never e = let p = vets-pass st ws codes e .unmet in book-list ∙ rw (p .0, p .1, p .2)
+  pub book-own : vets st ws codes ≡ 0 → refused st ws call ≡ first-own (own-refusals (settings-of st) call (held-in (settings-of st) ws))
+  unfolding first-own first-met
+  book-own e = let p = vets-pass st ws codes e .unmet in book-list ∙ rw (p .0, p .1, p .2)
+
+pub book-never : (st ws : List ℕ) (codes : Bool) (call : Call) → OnBook call → codes ≡ codes-fit (settings-of st) call → vets st ws codes ≡ 0 → refused st ws call ≡ 0
+unfolding first-own first-met
+book-never st ws codes call on same e =
+    book-own st ws codes call (on .of) same e ∙ ap first-own (on .never (settings-of st) (held-in (settings-of st) ws))

@@ -8,5 +8,5 @@ pub mod OnWhole
 pub mod Runs
 pub mod OnClass
 pub mod Opening
-pub mod OnDump
+pub mod OnOutput
 pub mod OnRestore

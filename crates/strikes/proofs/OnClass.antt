@@ -38,15 +38,15 @@ class-of-words p ws = midOf (p .start) (p .end - p .start) ws
 
 holds : (kind number : ℕ) → OnBook (HeldBy kind number)
 unfolding is-open no-such-register own-refusals
-holds kind number = record { shut = refl; unnumbered = λ s. refl; never = λ s t. refl }
+holds kind number = record { of = record { shut = refl; unnumbered = λ s. refl }; never = λ s t. refl }
 
 totals : (c : ℕ) → OnBook (ClassTotals c)
 unfolding is-open no-such-register own-refusals
-totals c = record { shut = refl; unnumbered = λ s. refl; never = λ s t. refl }
+totals c = record { of = record { shut = refl; unnumbered = λ s. refl }; never = λ s t. refl }
 
 module _ {st ws : List ℕ} {codes : Bool} {c : Class} {p : ClassEntry} (at : AtClass st ws codes c p) where
   class-refused : (p .refusal ≡ 0 → ⊥) → (call : Call) → OnBook call → codes ≡ codes-fit (settings-of st) call → Refused (p .refusal) ≡ reply st ws call
-  class-refused h call on same = refused-reply st ws call _ (book-early st ws codes call on same _ (at .refusal) h) h .0
+  class-refused h call on same = refused-reply st ws call _ (book-early st ws codes call (on .of) same _ (at .refusal) h) h .0
 
   pub held-refused : (p .refusal ≡ 0 → ⊥) → (kind number : ℕ) → codes ≡ deliverer-fits kind number → Refused (p .refusal) ≡ reply st ws (HeldBy kind number)
   unfolding codes-fit
@@ -57,7 +57,7 @@ module _ {st ws : List ℕ} {codes : Bool} {c : Class} {p : ClassEntry} (at : At
   totals-refused h n same = class-refused h _ (totals n) same
 
   module _ (z : p .refusal ≡ 0) where
-    passes : vets st ws codes ≡ 0
+    pub passes : vets st ws codes ≡ 0
     passes = sym (at .refusal) ∙ z
 
     may-read : Entered (settings-of st) ws
@@ -85,19 +85,23 @@ module _ {st ws : List ℕ} {codes : Bool} {c : Class} {p : ClassEntry} (at : At
         let l : length (class-of-words p ws) ≡ p .end - p .start = mid-len (p .start) (p .end) ws (at .within) in
         omega arith
 
+    -- what is read of the class's words is so of the class that is held
+    pub seen-class : {R : Type 0} {out : Held → R} {v : R} → ClassReads (p .shares) c out (class-of-words p ws) v
+        → v ≡ out (pick c (held-in (settings-of st) ws .book .classes))
+    seen-class {out} {v} reads =
+        let s = settings-of st in
+        let t = subst (λ (x : Shares). ClassReads x c out (class-of-words p ws) v) (place .shares) reads in
+        seen-part s ws may-read (λ t. pick c (t .book .classes)) (class-part s c) (p .start) (p .end) (place .start) ends t
+
     told-class : (call : Call) → OnBook call → codes ≡ codes-fit (settings-of st) call → {R : Type 0} {out : Held → R} {v : R} (answer : R → Answer)
         → (p .shares ≡ settings-of st .shares → (t : State) → step (settings-of st) call t .answer ≡ answer (out (pick c (t .book .classes))))
         → ClassReads (p .shares) c out (class-of-words p ws) v → answer v ≡ reply st ws call
     told-class call on same {out} {v} answer says reads =
-        let s = settings-of st in
-        let b = place .shares in
-        let t = subst (λ (x : Shares). ClassReads x c out (class-of-words p ws) v) b reads in
-        ap answer (seen-part s ws may-read (λ t. pick c (t .book .classes)) (class-part s c) (p .start) (p .end) (place .start) ends t)
-        ∙ sym (says b (held-in s ws)) ∙ sym (replied st ws call (book-never st ws codes call on same passes))
+        ap answer (seen-class reads) ∙ sym (says (place .shares) (held-in (settings-of st) ws)) ∙ sym (replied st ws call (book-never st ws codes call on same passes))
 
 -- ---- a deliverer's entries, and a class's totals
 module _ {st ws : List ℕ} {codes : Bool} {c : Class} {p : ClassEntry} (at : AtClass st ws codes c p) (z : p .refusal ≡ 0) (who : Deliverer) (its : c ≡ class-of who) where
-  deliverer-at : AtClass st ws codes (class-of who) p
+  pub deliverer-at : AtClass st ws codes (class-of who) p
   deliverer-at = rw its at at
 
   pub deliverer-lies : ClassIs (p .shares) (class-of who) (class-of-words p ws)

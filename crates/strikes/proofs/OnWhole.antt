@@ -113,7 +113,7 @@ module _ {st ws : List ℕ} {codes : Bool} {r : ℕ} {e : Entry} (by : ByRegiste
 module _ {st ws : List ℕ} {codes : Bool} {e : Entry} (by : ByBook st ws codes e) where
   pub book-refused : (e .refusal ≡ 0 → ⊥) → {call : Call} → OnBook call → codes ≡ codes-fit (settings-of st) call → Told st ws call (Refused (e .refusal)) ws
   book-refused h {call} on same =
-      let q = refused-reply st ws call _ (book-early st ws codes call on same _ (by .enters .refusal) h) h in record { answer = q .0; words = q .1 }
+      let q = refused-reply st ws call _ (book-early st ws codes call (on .of) same _ (by .enters .refusal) h) h in record { answer = q .0; words = q .1 }
 
   module _ (z : e .refusal ≡ 0) where
     passes : vets st ws codes ≡ 0

@@ -54,15 +54,15 @@ was-taken-batch = takes taken-batch take-batch-says (λ s r a x. refl)
 -- ---- calls on the book
 pub closes : OnBook Close
 unfolding is-open no-such-register own-refusals
-closes = record { shut = refl; unnumbered = λ s. refl; never = λ s t. refl }
+closes = record { of = record { shut = refl; unnumbered = λ s. refl }; never = λ s t. refl }
 
 pub expires : (ms : ℕ) → OnBook (Expire ms)
 unfolding is-open no-such-register own-refusals
-expires ms = record { shut = refl; unnumbered = λ s. refl; never = λ s t. refl }
+expires ms = record { of = record { shut = refl; unnumbered = λ s. refl }; never = λ s t. refl }
 
 pub limits : (ls : List ℕ) → OnBook (SetLimits ls)
 unfolding is-open no-such-register own-refusals
-limits ls = record { shut = refl; unnumbered = λ s. refl; never = λ s t. refl }
+limits ls = record { of = record { shut = refl; unnumbered = λ s. refl }; never = λ s t. refl }
 
 module _ {st ws : List ℕ} {e : Entry} (by : ByBook st ws true e) (z : e .refusal ≡ 0) {last : List ℕ} where
   pub was-closed : ((s : Settings) → Turns (encode-front s) FrontOk shut (λ f. tt {0}) (take 20 ws) last (tt {0})) → Told st ws Close Done (last ++ drop 20 ws)

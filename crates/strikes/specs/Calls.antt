@@ -17,10 +17,10 @@ pub record Told (st ws : List ℕ) (call : Call) (a : Answer) (left : List ℕ) 
   pub answer : a ≡ reply st ws call
   pub words : left ≡ after st ws call
 
--- what a dump tells and writes: the reply, and every byte of the output, are those of the rules, refusals included
-pub record ToldBytes (st ws : List ℕ) (call : Call) (a : Answer) (left : List ℕ) : Type 0 where
+-- what a call with an output tells and writes: the reply, and every byte or word of the output, are those of the rules, refusals included
+pub record ToldOutput (st ws : List ℕ) (call : Call) (a : Answer) (left : List ℕ) : Type 0 where
   pub answer : a ≡ reply st ws call
-  pub bytes : left ≡ output-after st ws call
+  pub output : left ≡ output-after st ws call
 
 -- what a restore that read so many bytes answers
 abbrev pub restore-answer : ℕ → Bool → Answer

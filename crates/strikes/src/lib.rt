@@ -1,5 +1,5 @@
 // The public calls. Each brings its settings as 29 words and the words that it may use. A call tries its refusals in their order,
-// 1, 2, 3, 4, 6, 5, 7, and a refusal alters nothing; otherwise it does what the rules say, and leaves what lies past the needed words.
+// 1, 2, 3, 4, 8, 6, 5, 7, and a refusal alters nothing; otherwise it does what the rules say, and leaves what lies past the needed words.
 use dump::Lengths;
 use model::Answer;
 use model::Class;
@@ -15,10 +15,10 @@ use vet::Entry;
 ghost use mathlib.Core.Path.{_≡_};
 ghost use Prim.Native.Nat.{_*_, _≤_};
 ghost use lib.ListN.{length};
-ghost use Rattle.model.specs.Calls.{judged, judged-batch, taken, taken-batch, On, Open, Close, Expire, SetLimits, HeldBy, ClassTotals, Begin, Sweep, ContainsHash, DumpTo, Restore, Resume, Floor, Pending, SweptBucket, yes-no, reply};
+ghost use Rattle.model.specs.Calls.{judged, judged-batch, taken, taken-batch, On, Open, Close, Expire, SetLimits, HeldBy, ClassTotals, Begin, Sweep, ContainsHash, DumpTo, Restore, Resume, Floor, Pending, SweptBucket, ViewRegister, ViewDeliverer, yes-no, reply};
 ghost use Rattle.register.specs.Words.{RegisterWords};
 ghost use Rattle.strikes.specs.Admitted.{six-then-five, DumpTried};
-ghost use Rattle.strikes.specs.Calls.{asking, Told, ToldBytes, restore-answer};
+ghost use Rattle.strikes.specs.Calls.{asking, Told, ToldOutput, restore-answer};
 ghost use Rattle.strikes.specs.Entries.{ByBook, ByRegister, ByOpening, AtRegister, AtClass, Asks};
 
 // Where a call on one register finds its words: the first refusal that was met, or 0, and then the register's settings and part.
@@ -452,7 +452,7 @@ fn dump_refused(part: &[u64], u: Usable, room: usize) -> u64
 
 // Writes a register's dump at the start of an output, and leaves what lies behind it. The words are only read.
 pub fn dump(settings: &[u64], words: &[u64], register: u64, out: &mut [u8]) -> Answer
-    ensures { λ a. ⌜ ToldBytes (now (settings .entry)) (now (words .entry)) (On register (DumpTo (now (out .entry)))) a (now (out .exit)) ⌝ }
+    ensures { λ a. ⌜ ToldOutput (now (settings .entry)) (now (words .entry)) (On register (DumpTo (now (out .entry)))) a (now (out .exit)) ⌝ }
 {
     let at = enter_register(settings, words, true, register);
     if at.refusal != 0 {
@@ -466,6 +466,52 @@ pub fn dump(settings: &[u64], words: &[u64], register: u64, out: &mut [u8]) -> A
     }
     let long = dump::dump(out, &words[a..e], at.u);
     Answer::Dumped(long as u64)
+}
+
+// Writes a register's view at the start of an output, and leaves what lies behind it: of each held generation, in dump sequence, its
+// bucket, oldest stamp, newest stamp and number held. The words are only read.
+pub fn view_register(settings: &[u64], words: &[u64], register: u64, out: &mut [u64]) -> Answer
+    ensures { λ a. ⌜ ToldOutput (now (settings .entry)) (now (words .entry)) (On register (ViewRegister (now (out .entry)))) a (now (out .exit)) ⌝ }
+{
+    let at = enter_register(settings, words, true, register);
+    if at.refusal != 0 {
+        return Answer::Refused(at.refusal);
+    }
+    let a = at.start;
+    let e = at.end;
+    let long = register_view::view_length(&words[a..e], at.u);
+    if out.len() < long {
+        return Answer::Refused(8);
+    }
+    let n = register_view::view(out, &words[a..e], at.u);
+    Answer::Viewed(n as u64)
+}
+
+// Writes a deliverer's view at the start of an output, and leaves what lies behind it: its pairs of second and count, seconds rising, and
+// then its entries; 0 alone where it has no place. The words are only read.
+pub fn view_deliverer(
+    settings: &[u64],
+    words: &[u64],
+    kind: u64,
+    number: u64,
+    out: &mut [u64],
+) -> Answer
+    ensures { λ a. ⌜ ToldOutput (now (settings .entry)) (now (words .entry)) (ViewDeliverer kind number (now (out .entry))) a (now (out .exit)) ⌝ }
+{
+    let listed = codes::deliverer_fits(kind, number);
+    let who = codes::deliverer_of(kind, number);
+    let at = enter_class(settings, words, listed, codes::class_of(who));
+    if at.refusal != 0 {
+        return Answer::Refused(at.refusal);
+    }
+    let a = at.start;
+    let e = at.end;
+    let long = book_view::view_length(&words[a..e], at.shares, who);
+    if out.len() < long {
+        return Answer::Refused(8);
+    }
+    let n = book_view::view(out, &words[a..e], at.shares, who);
+    Answer::Viewed(n as u64)
 }
 
 // What a restore answers that read so many words of these bytes.

@@ -10,7 +10,7 @@ use native.Mathlib.Omega.{arith}
 use Rattle.runs.proofs.Cases.{by-test, no}
 use Rattle.model.specs.declared.Verdict.the-variants.{New}
 use Rattle.model.specs.declared.Answer.{Answer}
-use Rattle.model.specs.declared.Answer.the-variants.{Refused, Done, Said, Yes, No, Begun, Already, Dumped, Whole, Partly, NoFloor, FloorAt, SweptTo, Entries, Totals}
+use Rattle.model.specs.declared.Answer.the-variants.{Refused, Done, Said, Yes, No, Begun, Already, Dumped, Viewed, Whole, Partly, NoFloor, FloorAt, SweptTo, Entries, Totals}
 use Rattle.model.specs.Codes.{answer-number, answer-values, went-through, partly}
 use Rattle.model.specs.Calls.{Sort, Asks, Takes, Restores, Resumes, Plain, Kind, Opens, OnOne, Sets, Other, kind, reply, after}
 use Rattle.model.specs.View.{Given, words-after}
@@ -65,6 +65,7 @@ partly-out No olds e = no (cc)
 partly-out Begun olds e = no (cc)
 partly-out Already olds e = no (cc)
 partly-out (Dumped n) olds e = no (cc)
+partly-out (Viewed n) olds e = no (cc)
 partly-out (Whole n) olds e = no (cc)
 partly-out (Partly n) [] e = (refl, refl)
 partly-out (Partly n) (old ∷ olds) e = (refl, refl)

@@ -20,7 +20,7 @@ abbrev settings : List ℕ
 settings = 1 ∷ 2 ∷ 2 ∷ 0 ∷ 0 ∷ 0 ∷ 0 ∷ 0 ∷ 0 ∷ 2 ∷ 4 ∷ replicate 18 0
 
 abbrev start : List ℕ
-start = after settings (replicate 224 5) (Open (replicate 5 4) (replicate 8 0))
+start = after settings (replicate 230 5) (Open (replicate 5 4) (replicate 8 0))
 
 -- a Feeder's ticket, fingerprint 7, its stamp and the reading 6
 abbrev ask : Manner → Call

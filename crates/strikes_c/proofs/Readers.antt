@@ -8,5 +8,5 @@ readers-kept st ws call n olds news reads =
     let stay = sym (readers-leave st ws call reads) in
     record {
       by-read = λ c. record { number = c .number; words = stay; values = c .values };
-      by-written = λ bytes c. record { number = c .number; words = stay; values = c .values };
+      by-written = λ out c. record { number = c .number; words = stay; values = c .values };
     }

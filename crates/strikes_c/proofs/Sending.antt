@@ -8,7 +8,7 @@ use lib.Seq.{getD-take}
 use Rattle.model.specs.declared.Answer.{Answer}
 use Rattle.model.specs.Codes.{answer-number, answer-values}
 use Rattle.model.specs.Calls.{Call, reply}
-use Rattle.strikes.specs.Calls.{Told, ToldBytes}
+use Rattle.strikes.specs.Calls.{Told, ToldOutput}
 use Rattle.strikes_c.specs.declared.sent.Sent.{Sent}
 use Rattle.strikes_c.specs.Out.{value-out, values-out, Returned, Read, Written, values-of, SentAs}
 
@@ -45,5 +45,5 @@ module _ (st ws : List ℕ) (call : Call) (a : Answer) (s : Sent) (sent : SentAs
   pub told-out : (left olds news : List ℕ) → Told st ws call a left → news ≡ outs 0 (values-of s) olds → Returned st ws call (s .status) left olds news
   told-out left olds news t e = let r = read-out olds news (t .answer) e in record { number = r .number; words = t .words; values = r .values }
 
-  pub written-out : (left olds news : List ℕ) → ToldBytes st ws call a left → news ≡ outs 0 (values-of s) olds → Written st ws call (s .status) left olds news
-  written-out left olds news t e = let r = read-out olds news (t .answer) e in record { number = r .number; bytes = t .bytes; values = r .values }
+  pub written-out : (left olds news : List ℕ) → ToldOutput st ws call a left → news ≡ outs 0 (values-of s) olds → Written st ws call (s .status) left olds news
+  written-out left olds news t e = let r = read-out olds news (t .answer) e in record { number = r .number; output = t .output; values = r .values }

@@ -30,10 +30,10 @@ pub record Read (st ws : List ℕ) (call : Call) (n : ℕ) (olds news : List ℕ
   pub number : n ≡ answer-number (reply st ws call)
   pub values : news ≡ values-out 0 (reply st ws call) olds
 
--- a call that only reads words, and writes bytes: every byte of its output
+-- a call that only reads words, and writes an output: every byte or word of it
 pub record Written (st ws : List ℕ) (call : Call) (n : ℕ) (left olds news : List ℕ) : Type 0 where
   pub number : n ≡ answer-number (reply st ws call)
-  pub bytes : left ≡ output-after st ws call
+  pub output : left ≡ output-after st ws call
   pub values : news ≡ values-out 0 (reply st ws call) olds
 
 -- ---- an answer as numbers

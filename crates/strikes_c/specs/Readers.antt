@@ -9,7 +9,7 @@ use Rattle.strikes_c.specs.Out.{Returned, Read, Written}
 
 pub record ReadersKeep (st ws : List ℕ) (call : Call) (n : ℕ) (olds news : List ℕ) : Type 0 where
   pub by-read : Read st ws call n olds news → Returned st ws call n ws olds news
-  pub by-written : (bytes : List ℕ) → Written st ws call n bytes olds news → Returned st ws call n ws olds news
+  pub by-written : (out : List ℕ) → Written st ws call n out olds news → Returned st ws call n ws olds news
 
 -- which calls only read, their meaning says (the model's specs/Calls)
 abbrev pub ReadersKept : Type 0

@@ -6,7 +6,7 @@ use numbers::bounds;
 use sent::send;
 ghost use mathlib.Core.Path.{_≡_};
 ghost use mathlib.Core.List.{[], _∷_};
-ghost use Rattle.model.specs.Calls.{judged, judged-batch, taken, taken-batch, On, Open, Expire, Close, SetLimits, HeldBy, ClassTotals, Begin, Sweep, ContainsHash, DumpTo, Restore, Resume, Floor, Pending, SweptBucket};
+ghost use Rattle.model.specs.Calls.{judged, judged-batch, taken, taken-batch, On, Open, Expire, Close, SetLimits, HeldBy, ClassTotals, Begin, Sweep, ContainsHash, DumpTo, Restore, Resume, Floor, Pending, SweptBucket, ViewRegister, ViewDeliverer};
 ghost use Rattle.strikes.specs.Calls.{asking};
 ghost use Rattle.strikes_c.specs.Out.{Returned, Read, Written, needed-status, needed-out};
 
@@ -250,6 +250,39 @@ pub extern "C" fn strikes_dump(
     ensures { λ n. ⌜ Written (now (settings .entry)) (now (words .entry)) (On register (DumpTo (now (out .entry)))) n (now (out .exit)) (now (written .entry) ∷ []) (now (written .exit) ∷ []) ⌝ }
 {
     let sent = send(strikes::dump(settings, words, register, out));
+    *written = sent.first_or(*written);
+    sent.status
+}
+
+// Writes a register's view at the start of an output, and leaves what lies behind it: the words written.
+#[no_mangle]
+pub extern "C" fn strikes_view_register(
+    settings: &[u64],
+    words: &[u64],
+    register: u64,
+    out: &mut [u64],
+    written: &mut u64,
+) -> u64
+    ensures { λ n. ⌜ Written (now (settings .entry)) (now (words .entry)) (On register (ViewRegister (now (out .entry)))) n (now (out .exit)) (now (written .entry) ∷ []) (now (written .exit) ∷ []) ⌝ }
+{
+    let sent = send(strikes::view_register(settings, words, register, out));
+    *written = sent.first_or(*written);
+    sent.status
+}
+
+// Writes a deliverer's view at the start of an output, and leaves what lies behind it: the words written.
+#[no_mangle]
+pub extern "C" fn strikes_view_deliverer(
+    settings: &[u64],
+    words: &[u64],
+    kind: u64,
+    number: u64,
+    out: &mut [u64],
+    written: &mut u64,
+) -> u64
+    ensures { λ n. ⌜ Written (now (settings .entry)) (now (words .entry)) (ViewDeliverer kind number (now (out .entry))) n (now (out .exit)) (now (written .entry) ∷ []) (now (written .exit) ∷ []) ⌝ }
+{
+    let sent = send(strikes::view_deliverer(settings, words, kind, number, out));
     *written = sent.first_or(*written);
     sent.status
 }

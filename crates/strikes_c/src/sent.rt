@@ -132,5 +132,6 @@ pub(crate) fn send(answer: Answer) -> Sent
             units,
             expired,
         ),
+        Answer::Viewed(n) => Sent::one(n),
     }
 }

@@ -2,7 +2,7 @@
 //! compared with the Rust.
 
 use calls::call::Ticket;
-use calls::{Answer, Call, Form, Limits, Look, Machine, Settings, Start, Verdict, Who};
+use calls::{Answer, Call, Form, Length, Limits, Look, Machine, Settings, Start, Verdict, Who};
 use strikes::raw::{self, Ask, Manner};
 use strikes::{Refusal, Verdict as Said};
 
@@ -21,6 +21,8 @@ pub struct Product {
     words: Vec<u64>,
     /// For the bytes of a dump.
     out: Vec<u8>,
+    /// For the words of a view.
+    view: Vec<u64>,
 }
 
 impl Machine for Product {
@@ -109,21 +111,24 @@ impl Product {
         let settings = brought.unwrap_or(kept);
         let lent = self.lent();
         let words = &mut self.words[..lent];
-        if let Call::Dump { register, length } = call {
-            return dump(&settings, words, *register, *length, &mut self.out);
-        }
-        serve(&settings, words, call).unwrap_or_else(refused)
+        let answer = match call {
+            Call::Dump { register, length } => {
+                return dump(&settings, words, *register, *length, &mut self.out);
+            }
+            Call::Look(of) => look(&settings, words, of, &mut self.view),
+            _ => serve(&settings, words, call),
+        };
+        answer.unwrap_or_else(refused)
     }
 }
 
-/// A call that is no opening, no dump and sets no stage.
+/// A call that is no opening and no dump, does not only read and sets no stage.
 fn serve(settings: &[u64], words: &mut [u64], call: &Call) -> Result<Answer, Refusal> {
     Ok(match call {
         Call::Ask { form, ticket } => {
             let verdict = raw::ask(manner(*form), settings, words, &ask(ticket))?;
             Said::of(verdict).map_or(Answer::Broke, |said| Answer::Verdict(verdict_of(said)))
         }
-        Call::Look(of) => look(settings, words, of)?,
         Call::Begin { register, number } => {
             match raw::begin(settings, words, *register, *number)? {
                 1 => Answer::Begun,
@@ -149,6 +154,7 @@ fn serve(settings: &[u64], words: &mut [u64], call: &Call) -> Result<Answer, Ref
         }
         Call::Open { .. }
         | Call::Dump { .. }
+        | Call::Look(_)
         | Call::Lend { .. }
         | Call::Bring(_)
         | Call::Poke { .. } => {
@@ -157,25 +163,29 @@ fn serve(settings: &[u64], words: &mut [u64], call: &Call) -> Result<Answer, Ref
     })
 }
 
-/// Hands a reading call's parts to its entry point, one by one; a deliverer is two numbers there.
+/// Hands a reading call's parts to its entry point, one by one: a deliverer is two numbers there, and a length an output of so many words,
+/// which is told with what was written into it.
 macro_rules! hand {
-    ($name:ident($($handed:expr),*)) => {
+    ($out:ident, $name:ident($($handed:expr),*)) => {
         raw::$name($($handed),*)
     };
-    ($name:ident($($handed:expr),*) $who:ident: Who, $($left:tt)*) => {
-        hand!($name($($handed),*, codes($who).0, codes($who).1) $($left)*)
+    ($out:ident, $name:ident($($handed:expr),*) $length:ident: Length,) => {
+        raw::$name($($handed),*, lend_view($out, $length)).map(|written| (written, &$out[..]))
     };
-    ($name:ident($($handed:expr),*) $number:ident, $($left:tt)*) => {
-        hand!($name($($handed),*, $number) $($left)*)
+    ($out:ident, $name:ident($($handed:expr),*) $who:ident: Who, $($left:tt)*) => {
+        hand!($out, $name($($handed),*, codes($who).0, codes($who).1) $($left)*)
+    };
+    ($out:ident, $name:ident($($handed:expr),*) $number:ident, $($left:tt)*) => {
+        hand!($out, $name($($handed),*, $number) $($left)*)
     };
 }
 
 macro_rules! run {
     ($($look:ident $name:ident($($part:ident $(: $of:ident)?),*) -> $answer:ident;)*) => {
-        /// A reading call at the entry point of its name.
-        fn look(settings: &[u64], words: &[u64], look: &Look) -> Result<Answer, Refusal> {
+        /// A reading call at the entry point of its name; a view goes into `out`.
+        fn look(settings: &[u64], words: &[u64], look: &Look, out: &mut Vec<u64>) -> Result<Answer, Refusal> {
             Ok(match *look {
-                $(Look::$look { $($part),* } => $answer(hand!($name(settings, words) $($part $(: $of)?,)*)?)),*
+                $(Look::$look { $($part),* } => $answer(hand!(out, $name(settings, words) $($part $(: $of)?,)*)?)),*
             })
         }
     };
@@ -191,17 +201,26 @@ fn dump(
     length: Option<u64>,
     out: &mut Vec<u8>,
 ) -> Answer {
-    let enough = 8 * words.len();
-    let length = length.map_or(enough, |length| {
-        enough.min(usize::try_from(length).unwrap_or(enough))
-    });
-    out.resize(length, 0);
+    lend(out, length, 8 * words.len());
     match raw::dump(settings, words, register, out) {
         Ok(written) => out
             .get(..written as usize)
             .map_or(Answer::Broke, |bytes| Answer::Bytes(bytes.to_vec())),
         Err(refusal) => refused(refusal),
     }
+}
+
+/// An output of `length`, or one that is enough; none is longer.
+fn lend<T: Clone + Default>(out: &mut Vec<T>, length: Length, enough: usize) {
+    let length = length.and_then(|length| usize::try_from(length).ok());
+    let length = length.map_or(enough, |length| length.min(enough));
+    out.resize(length, T::default());
+}
+
+/// An output for a view.
+fn lend_view(out: &mut Vec<u64>, length: Length) -> &mut [u64] {
+    lend(out, length, raw::REGISTER_VIEW.max(raw::DELIVERER_VIEW));
+    out
 }
 
 fn done(_: ()) -> Answer {
@@ -226,6 +245,11 @@ fn number(number: u64) -> Answer {
 
 fn numbers<const N: usize>(numbers: impl Into<[u64; N]>) -> Answer {
     Answer::Numbers(numbers.into().to_vec())
+}
+
+fn view((written, out): (u64, &[u64])) -> Answer {
+    out.get(..written as usize)
+        .map_or(Answer::Broke, |words| Answer::Viewed(words.to_vec()))
 }
 
 fn restored((whole, read): (u64, u64)) -> Answer {

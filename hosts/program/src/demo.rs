@@ -2,7 +2,6 @@
 //! late. Each verdict is printed with its reason, which is worked out here from what the register tells of itself.
 
 use std::fmt::Write as _;
-use std::io::Write as _;
 use std::process::ExitCode;
 
 use strikes::{
@@ -31,11 +30,7 @@ const NEIGHBOUR: Deliverer = Deliverer::Peer(9);
 
 pub fn run() -> ExitCode {
     match tell() {
-        Ok(text) => {
-            // A reader that has seen enough may close the pipe.
-            let _ = std::io::stdout().write_all(text.as_bytes());
-            ExitCode::SUCCESS
-        }
+        Ok(text) => crate::tell(&text),
         Err(refusal) => {
             eprintln!("strikes: refused: {refusal}");
             ExitCode::FAILURE

@@ -6,14 +6,18 @@
 //!     strikes record < LIST     prints the list with the register's answers
 //!     strikes view < LIST       runs a list and prints what it leaves so that a person can read it
 //!     strikes view FILE         prints words that a host has kept, as little-endian bytes
+//!     strikes meter WHO < LIST  runs a list and prints the seconds, counts and entries that it leaves to a deliverer, as `f:1`
 //!     strikes soak SEED [DAYS [PICTURE]]   half a year of a gateway's clock, or so many days, watched by a ledger
 //!
 //! The status is 0 only if every line could be read and every answer agreed.
 
 mod demo;
+mod list;
+mod meter;
 mod soak;
 mod view;
 
+use std::io::{self, Write};
 use std::process::ExitCode;
 
 use machine::Product;
@@ -25,6 +29,7 @@ fn main() -> ExitCode {
         ["demo"] => demo::run(),
         ["view"] => view::of_list(),
         ["view", file] => view::of_file(file),
+        ["meter", who] => meter(who),
         ["soak", seed] => soak(seed, SOAK_DAYS, SOAK_PICTURE),
         ["soak", seed, days] => soak(seed, days, SOAK_PICTURE),
         ["soak", seed, days, file] => soak(seed, days, file),
@@ -39,6 +44,23 @@ fn main() -> ExitCode {
 const SOAK_DAYS: &str = "184";
 const SOAK_PICTURE: &str = "build/soak.svg";
 
+/// Prints a text.
+fn tell(text: &str) -> ExitCode {
+    // A reader that has seen enough may close the pipe.
+    let _ = io::stdout().write_all(text.as_bytes());
+    ExitCode::SUCCESS
+}
+
+fn meter(who: &str) -> ExitCode {
+    match calls::read::who(who) {
+        Ok(who) => meter::of_list(who),
+        Err(why) => {
+            eprintln!("strikes: {why}");
+            usage()
+        }
+    }
+}
+
 fn soak(seed: &str, days: &str, file: &str) -> ExitCode {
     match (seed.parse(), days.parse()) {
         (Ok(seed), Ok(days)) if days > 0 => soak::run(seed, days, file),
@@ -48,7 +70,7 @@ fn soak(seed: &str, days: &str, file: &str) -> ExitCode {
 
 fn usage() -> ExitCode {
     eprintln!(
-        "strikes demo, {}, view < LIST, view FILE, soak SEED [DAYS [PICTURE]]",
+        "strikes demo, {}, view < LIST, view FILE, meter WHO < LIST, soak SEED [DAYS [PICTURE]]",
         calls::program::USAGE
     );
     ExitCode::from(2)

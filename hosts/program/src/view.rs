@@ -1,40 +1,19 @@
 //! A book and its registers printed so that a person can read them.
 
-use std::io::{self, Write};
 use std::process::ExitCode;
 
-use calls::replay::{Print, replay};
-use machine::Product;
 use strikes::words::{self, Book, Generation, Held, Place, Register, View};
 use strikes::{Class, Deliverer};
+
+use crate::list::left_by_list;
+use crate::tell;
 
 /// The fingerprints of a generation, and the pairs of a place, that are printed; of more, their number.
 const SHOWN: usize = 8;
 
 /// Runs the list on the standard input and prints what it leaves.
 pub fn of_list() -> ExitCode {
-    let mut product = Product::default();
-    let (stdin, mut notes) = (io::stdin().lock(), io::stderr().lock());
-    match replay(
-        stdin,
-        &mut product,
-        Print::Differences,
-        &mut io::sink(),
-        &mut notes,
-    ) {
-        Ok(outcome) => {
-            let printed = of_words(product.words());
-            if outcome.status() == 0 {
-                printed
-            } else {
-                ExitCode::from(outcome.status())
-            }
-        }
-        Err(why) => {
-            let _ = writeln!(notes, "strikes: {why}");
-            ExitCode::from(2)
-        }
-    }
+    left_by_list(|product| of_words(product.words()))
 }
 
 /// Words that a host has kept.
@@ -58,12 +37,7 @@ pub fn of_file(file: &str) -> ExitCode {
 
 fn of_words(words: &[u64]) -> ExitCode {
     match words::view(words) {
-        Some(view) => {
-            let text = text_of(&view);
-            // A reader that has seen enough may close the pipe.
-            let _ = io::stdout().write_all(text.as_bytes());
-            ExitCode::SUCCESS
-        }
+        Some(view) => tell(&text_of(&view)),
         None => {
             eprintln!("strikes: these are no words of a gateway");
             ExitCode::FAILURE
@@ -188,9 +162,10 @@ fn generation_line(generation: &Generation, most: u64) -> String {
         format!("{fingerprint:x}")
     });
     format!(
-        "    position {}: bucket {}, newest {}, held {} in {} slots of {most}: {fingerprints}",
+        "    position {}: bucket {}, oldest {}, newest {}, held {} in {} slots of {most}: {fingerprints}",
         generation.position,
         generation.bucket,
+        generation.oldest,
         generation.newest,
         generation.fingerprints.len(),
         generation.slots

@@ -66,6 +66,8 @@ pub enum Refusal {
     Pending,
     /// 7: a dump that is cut short.
     CutShort,
+    /// 8: the output is too short for the view.
+    ShortView,
     /// A number that this wrapper does not know: it was built for another library.
     Unknown(u64),
 }
@@ -82,6 +84,7 @@ impl Refusal {
             5 => Some(Self::ShortOutput),
             6 => Some(Self::Pending),
             7 => Some(Self::CutShort),
+            8 => Some(Self::ShortView),
             other => Some(Self::Unknown(other)),
         }
     }
@@ -96,6 +99,7 @@ impl Refusal {
             Self::ShortOutput => 5,
             Self::Pending => 6,
             Self::CutShort => 7,
+            Self::ShortView => 8,
             Self::Unknown(number) => number,
         }
     }
@@ -115,6 +119,7 @@ impl fmt::Display for Refusal {
             Self::ShortOutput => f.write_str("5: the output is too short for the dump"),
             Self::Pending => f.write_str("6: a register that is pending has no dump"),
             Self::CutShort => f.write_str("7: the dump is cut short"),
+            Self::ShortView => f.write_str("8: the output is too short for the view"),
             Self::Unknown(number) => {
                 write!(f, "{number}: a refusal that this wrapper does not know")
             }
@@ -228,4 +233,16 @@ pub struct Swept {
     pub bucket: u64,
     /// The same in milliseconds of the clock.
     pub published: u64,
+}
+
+/// What a register remembers of one bucket of one class, told where it holds a ticket there.
+#[derive(Clone, Copy, Debug, Default, PartialEq, Eq, Hash)]
+pub struct Generation {
+    pub bucket: u64,
+    /// The oldest stamp that was inserted. What a restore brought back counts as inserted at the dump's newest.
+    pub oldest: u64,
+    /// The newest stamp that was inserted.
+    pub newest: u64,
+    /// The tickets that are held.
+    pub held: u64,
 }

@@ -56,6 +56,12 @@ macro_rules! entries {
             pending(settings: &[u64], words: &[u64], register) -> (pending);
             /// The bucket that a register is swept to, and its published sweep in milliseconds.
             swept(settings: &[u64], words: &[u64], register) -> (bucket, published);
+            /// Writes a register's view at the start of `out`; the words written. Of each held generation, in a dump's sequence, they are
+            /// its bucket, oldest stamp, newest stamp and number held.
+            view_register(settings: &[u64], words: &[u64], register, out: &mut [u64]) -> (written);
+            /// Writes a deliverer's view at the start of `out`; the words written. They are second and count of each of its pairs, seconds
+            /// rising, and then its entries.
+            view_deliverer(settings: &[u64], words: &[u64], kind, number, out: &mut [u64]) -> (written);
             /// A deliverer's entries.
             held(settings: &[u64], words: &[u64], kind, number) -> (entries);
             /// A class's entries, holders, units and `expired`.

@@ -1,6 +1,8 @@
 //! A share book and its registers, which own their words.
 
-use crate::answers::{Begun, Class, Deliverer, Refusal, Restored, Start, Swept, Totals, Verdict};
+use crate::answers::{
+    Begun, Class, Deliverer, Generation, Refusal, Restored, Start, Swept, Totals, Verdict,
+};
 use crate::raw::{self, Ask, Manner};
 use crate::settings::{Limits, Settings};
 
@@ -320,6 +322,61 @@ impl Gateway {
         raw::held(&self.settings, &self.words, kind, number)
     }
 
+    /// What the book remembers of a deliverer: the seconds in which its entries expire with the number in each, seconds rising, and its
+    /// entries together. Of one that has none: no pair, and 0.
+    ///
+    /// ```
+    /// # use strikes::{Deliverer, Gateway, Limits, Reading, Refusal, Settings, Start, Ticket, Window, Windows};
+    /// # fn main() -> Result<(), Refusal> {
+    /// # let window = Window::of(10_000, 2_000);
+    /// # let settings = Settings::new().register(Windows { origin: window, copy: window, bucket: 1_000, slots: 8 });
+    /// # let limits = Limits { feeder: 9, feeders: 9, ..Limits::default() };
+    /// let mut gateway = Gateway::open(&settings, &limits, &[Start::Empty])?;
+    /// let meter = Deliverer::Feeder(1);
+    /// for (fingerprint, stamp) in [(7, 100_000), (8, 99_500), (9, 99_000)] {
+    ///     gateway.take(0, Ticket { fingerprint, stamp }, Reading::at(100_000), meter)?;
+    /// }
+    /// assert_eq!(gateway.pairs_of(meter)?, (vec![(109, 1), (110, 2)], 3));
+    /// assert_eq!(gateway.pairs_of(Deliverer::Feeder(2))?, (vec![], 0));
+    /// # Ok(())
+    /// # }
+    /// ```
+    pub fn pairs_of(&self, who: Deliverer) -> Result<(Vec<(u64, u64)>, u64), Refusal> {
+        let (kind, number) = who.codes();
+        let mut out = vec![0; raw::DELIVERER_VIEW];
+        let written = raw::view_deliverer(&self.settings, &self.words, kind, number, &mut out)?;
+        let (pairs, entries) = out[..written as usize].as_chunks();
+        let pairs = pairs.iter().map(|&[second, count]| (second, count));
+        Ok((pairs.collect(), entries[0]))
+    }
+
+    /// What a register holds: its generations that hold something, in the sequence of a dump, so those of Feeders first, then those of
+    /// Peers and Own, each by position. A register that is pending is told too, and nothing is swept.
+    ///
+    /// ```
+    /// # use strikes::{Deliverer, Gateway, Generation, Limits, Reading, Refusal, Settings, Start, Ticket, Window, Windows};
+    /// # fn main() -> Result<(), Refusal> {
+    /// # let window = Window::of(10_000, 2_000);
+    /// # let settings = Settings::new().register(Windows { origin: window, copy: window, bucket: 1_000, slots: 8 });
+    /// # let limits = Limits { feeder: 9, feeders: 9, ..Limits::default() };
+    /// let mut gateway = Gateway::open(&settings, &limits, &[Start::Empty])?;
+    /// assert_eq!(gateway.generations(0)?, vec![]);
+    /// for (fingerprint, stamp) in [(7, 99_400), (8, 99_900), (9, 99_100)] {
+    ///     gateway.take(0, Ticket { fingerprint, stamp }, Reading::at(100_000), Deliverer::Feeder(1))?;
+    /// }
+    /// let held = Generation { bucket: 110, oldest: 99_100, newest: 99_900, held: 3 };
+    /// assert_eq!(gateway.generations(0)?, vec![held]);
+    /// assert_eq!(gateway.generations(1), Err(Refusal::NoRegister));
+    /// # Ok(())
+    /// # }
+    /// ```
+    pub fn generations(&self, register: u64) -> Result<Vec<Generation>, Refusal> {
+        let mut out = vec![0; raw::REGISTER_VIEW];
+        let written = raw::view_register(&self.settings, &self.words, register, &mut out)?;
+        let (all, _) = out[..written as usize].as_chunks();
+        Ok(all.iter().copied().map(generation).collect())
+    }
+
     /// A class's part of the book.
     pub fn totals(&self, class: Class) -> Result<Totals, Refusal> {
         let (entries, holders, units, expired) =
@@ -330,6 +387,15 @@ impl Gateway {
             units,
             expired,
         })
+    }
+}
+
+fn generation([bucket, oldest, newest, held]: [u64; 4]) -> Generation {
+    Generation {
+        bucket,
+        oldest,
+        newest,
+        held,
     }
 }
 

@@ -15,6 +15,8 @@ pub mod raw;
 mod settings;
 pub mod words;
 
-pub use answers::{Begun, Class, Deliverer, Refusal, Restored, Start, Swept, Totals, Verdict};
+pub use answers::{
+    Begun, Class, Deliverer, Generation, Refusal, Restored, Start, Swept, Totals, Verdict,
+};
 pub use gateway::{Gateway, Reading, Ticket};
 pub use settings::{Limits, Settings, Window, Windows};

@@ -13,6 +13,10 @@ pub const SETTINGS: usize = 29;
 pub const LIMITS: usize = 5;
 /// The words of the starts: a code and a floor for each of four registers.
 pub const STARTS: usize = 8;
+/// The words of a deliverer's view at most: 512 pairs and the entries.
+pub const DELIVERER_VIEW: usize = 1_025;
+/// The words of a register's view at most: three classes of 256 generations.
+pub const REGISTER_VIEW: usize = 3_072;
 
 /// The type of an argument or an out number: a number where the table says nothing.
 macro_rules! type_of {

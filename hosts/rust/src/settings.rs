@@ -76,7 +76,7 @@ impl Limits {
 /// let windows = Windows { origin: Window::of(10_000, 2_000), copy: Window::of(20_000, 2_000), bucket: 1_000, slots: 8 };
 /// let settings = Settings::new().places(4).pairs(16).place_units(1, 1).register(windows);
 /// assert_eq!(windows.ring(), 24);
-/// assert_eq!(settings.words_needed(), Ok(1_424));
+/// assert_eq!(settings.words_needed(), Ok(1_496));
 /// ```
 #[derive(Clone, Debug, PartialEq, Eq)]
 pub struct Settings {

@@ -38,6 +38,7 @@ pub struct Book {
 pub struct Generation {
     pub position: u64,
     pub bucket: u64,
+    pub oldest: u64,
     pub newest: u64,
     pub slots: u64,
     /// By slot.
@@ -192,20 +193,20 @@ fn register(reader: &mut Reader<'_>) -> Option<Register> {
 fn ring(reader: &mut Reader<'_>, windows: &Windows) -> Option<Vec<Generation>> {
     let mut held = Vec::new();
     for position in 0..windows.ring() {
-        let words = reader.run(windows.slots + 4)?;
-        if words[1] > 0 {
-            held.push(Generation {
-                position,
-                bucket: words[3],
-                newest: words[2],
-                slots: words[0],
-                fingerprints: words[4..]
-                    .iter()
-                    .copied()
-                    .filter(|slot| *slot != 0)
-                    .collect(),
-            });
-        }
+        held.extend(generation(position, reader.run(windows.slots + 5)?));
     }
     Some(held)
+}
+
+/// A generation that holds something.
+fn generation(position: u64, words: &[u64]) -> Option<Generation> {
+    let (head, slots) = words.split_at(5);
+    (head[1] > 0).then(|| Generation {
+        position,
+        bucket: head[3],
+        oldest: head[4],
+        newest: head[2],
+        slots: head[0],
+        fingerprints: slots.iter().copied().filter(|slot| *slot != 0).collect(),
+    })
 }

@@ -27,6 +27,8 @@ pub enum Answer {
     Partly(u64),
     Perhaps(Option<u64>),
     Numbers(Vec<u64>),
+    /// The words of a view.
+    Viewed(Vec<u64>),
     Refused(u64),
     /// The tool does not run this call: its answer is not compared.
     Apart,
@@ -66,9 +68,28 @@ impl fmt::Display for Answer {
                 let numbers: Vec<String> = numbers.iter().map(u64::to_string).collect();
                 f.write_str(&numbers.join(" "))
             }
+            // Their number leads them, so that a view of no words is no empty line, and no view of one word looks like a refusal.
+            Self::Viewed(words) => {
+                write!(f, "{}", words.len())?;
+                words.iter().try_for_each(|word| write!(f, " {word}"))
+            }
             Self::Refused(number) => write!(f, "{number}"),
             Self::Apart => f.write_str("-"),
             Self::Broke => f.write_str("broke"),
         }
+    }
+}
+
+#[cfg(test)]
+mod tests {
+    use super::Answer;
+
+    #[test]
+    fn a_view_is_led_by_the_number_of_its_words() {
+        let text = |words: &[u64]| Answer::Viewed(words.to_vec()).to_string();
+        assert_eq!(text(&[119, 2, 120, 1, 3]), "5 119 2 120 1 3");
+        assert_eq!(text(&[8]), "1 8");
+        assert_eq!(text(&[]), "0");
+        assert_eq!(Answer::Refused(8).to_string(), "8");
     }
 }

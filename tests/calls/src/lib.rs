@@ -17,6 +17,6 @@ pub mod settings;
 
 pub use answer::{Answer, Verdict};
 pub use call::{Call, Form, Start, Who};
-pub use look::{Look, Part};
+pub use look::{Length, Look, Part};
 pub use machine::Machine;
 pub use settings::{Limits, Settings, Window, Windows};

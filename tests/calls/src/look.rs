@@ -8,8 +8,8 @@ use crate::read::{FromLine, Words};
 /// Hands the table of reading calls to a macro, which makes something for each of them.
 ///
 /// A line is `Call name(parts) -> answer;`. The call is written as its name and its parts, and the register runs it at the entry point
-/// of the same name. A part without a type is a 64-bit number. The answer is `whether` (yes or no), `perhaps` (none or a number),
-/// `number` or `numbers`.
+/// of the same name. A part without a type is a 64-bit number. A `Length` comes last: the entry point writes into an output of so many
+/// words. The answer is `whether` (yes or no), `perhaps` (none or a number), `number`, `numbers` or `view` (what was written).
 #[macro_export]
 macro_rules! looks {
     ($make:ident) => {
@@ -20,15 +20,21 @@ macro_rules! looks {
             Swept swept(register) -> numbers;
             Held held(who: Who) -> number;
             Class class(class) -> numbers;
+            ViewRegister view_register(register, length: Length) -> view;
+            ViewDeliverer view_deliverer(who: Who, length: Length) -> view;
         }
     };
 }
+
+/// The words of an output; where none is named, as many as are always enough.
+pub type Length = Option<u64>;
 
 /// A part of a reading call.
 #[derive(Clone, Copy, Debug, PartialEq, Eq)]
 pub enum Part {
     Number(u64),
     Who(Who),
+    Length(Length),
 }
 
 impl From<u64> for Part {
@@ -40,6 +46,23 @@ impl From<u64> for Part {
 impl From<Who> for Part {
     fn from(who: Who) -> Self {
         Self::Who(who)
+    }
+}
+
+impl From<Length> for Part {
+    fn from(length: Length) -> Self {
+        Self::Length(length)
+    }
+}
+
+/// With the blank before it, so that a length that is not named leaves nothing.
+impl fmt::Display for Part {
+    fn fmt(&self, f: &mut fmt::Formatter<'_>) -> fmt::Result {
+        match self {
+            Self::Number(number) | Self::Length(Some(number)) => write!(f, " {number}"),
+            Self::Who(who) => write!(f, " {who}"),
+            Self::Length(None) => Ok(()),
+        }
     }
 }
 
@@ -70,6 +93,13 @@ macro_rules! define {
                 }
             }
 
+            /// Its name in a line, and that of its entry point.
+            fn name(self) -> &'static str {
+                match self {
+                    $(Self::$look { .. } => stringify!($name)),*
+                }
+            }
+
             /// Its parts by name.
             pub fn parts(self) -> Vec<(&'static str, Part)> {
                 match self {
@@ -77,19 +107,15 @@ macro_rules! define {
                 }
             }
         }
-
-        impl fmt::Display for Look {
-            fn fmt(&self, f: &mut fmt::Formatter<'_>) -> fmt::Result {
-                match self {
-                    $(Self::$look { $($part),* } => {
-                        f.write_str(stringify!($name))?;
-                        $(write!(f, " {}", $part)?;)*
-                    })*
-                }
-                Ok(())
-            }
-        }
     };
 }
 
 looks!(define);
+
+impl fmt::Display for Look {
+    fn fmt(&self, f: &mut fmt::Formatter<'_>) -> fmt::Result {
+        f.write_str(self.name())?;
+        let parts = self.parts();
+        parts.iter().try_for_each(|(_, part)| write!(f, "{part}"))
+    }
+}

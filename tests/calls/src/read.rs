@@ -2,7 +2,7 @@
 
 use crate::bytes::of_hex;
 use crate::call::{Call, Form, Start, Ticket, Who};
-use crate::look::Look;
+use crate::look::{Length, Look};
 use crate::settings::{Limits, Settings, Window, Windows};
 
 /// A call and the answer that the list records, its words parted by one blank each.
@@ -48,6 +48,14 @@ impl<'a> Words<'a> {
         number(self.word(what)?).ok_or_else(|| format!("{what} is no number"))
     }
 
+    /// A length, where the line names one.
+    fn length(&mut self) -> Result<Length, String> {
+        match self.left() {
+            0 => Ok(None),
+            _ => self.number("the length").map(Some),
+        }
+    }
+
     fn left(&self) -> usize {
         self.0.len()
     }
@@ -67,6 +75,12 @@ impl FromLine for u64 {
 impl FromLine for Who {
     fn read(words: &mut Words<'_>, _: &str) -> Result<Self, String> {
         who(words.word("the deliverer")?)
+    }
+}
+
+impl FromLine for Length {
+    fn read(words: &mut Words<'_>, _: &str) -> Result<Self, String> {
+        words.length()
     }
 }
 
@@ -99,10 +113,7 @@ fn read(name: &str, words: &mut Words<'_>) -> Result<Call, String> {
         "close" => Call::Close,
         "dump" => Call::Dump {
             register: words.number("the register")?,
-            length: match words.left() {
-                0 => None,
-                _ => Some(words.number("the length")?),
-            },
+            length: words.length()?,
         },
         "restore" => Call::Restore {
             register: words.number("the register")?,
@@ -220,7 +231,8 @@ fn start(text: &str) -> Result<Start, String> {
     }
 }
 
-fn who(text: &str) -> Result<Who, String> {
+/// The deliverer that a word names.
+pub fn who(text: &str) -> Result<Who, String> {
     let one = |letter: &str| match after(text, letter).as_deref() {
         Some([id]) => Some(*id),
         _ => None,
@@ -286,6 +298,10 @@ mod tests {
             "swept 0",
             "held x:1",
             "class 2",
+            "view_register 0",
+            "view_register 0 4",
+            "view_deliverer f:1",
+            "view_deliverer k:2:9 1025",
             "lend 3",
             "poke 1 2",
         ];
@@ -319,6 +335,11 @@ mod tests {
             "floor +1",
             "floor 18446744073709551616",
             "lift 0",
+            "view_register",
+            "view_register f:1",
+            "view_register 0 4 4",
+            "view_deliverer 1",
+            "view_deliverer f:1 -",
             "take 0 1 2 3 1 f:",
             "take 0 1 2 3 1 q:1",
             "take 0 1 2 3 1 f:1:2",

@@ -60,6 +60,8 @@ const SPANS: RangeInclusive<u64> = 0..=3_600_000;
 const BUCKETS: RangeInclusive<u64> = 1..=60_000;
 const SLOTS: RangeInclusive<u64> = 2..=1_024;
 const RING: u64 = 256;
+/// The words of a generation before its slots: slots, held, newest, bucket, oldest.
+const HEAD: u64 = 5;
 
 impl Windows {
     pub fn retained(&self) -> u64 {
@@ -95,7 +97,7 @@ impl Windows {
     }
 
     fn words(&self) -> u64 {
-        3 * self.ring() * (self.slots + 4)
+        3 * self.ring() * (self.slots + HEAD)
     }
 }
 
@@ -143,5 +145,46 @@ impl Settings {
             ..other.clone()
         };
         *self == alike
+    }
+}
+
+#[cfg(test)]
+mod tests {
+    use super::{Limits, Settings, Window, Windows};
+
+    fn words(registers: usize, places: u64, pairs: u64, one: Windows) -> u64 {
+        let settings = Settings {
+            registers: registers as u64,
+            places,
+            pairs,
+            feeder_units: 0,
+            peer_units: 0,
+            limits: Limits::default(),
+            windows: vec![one; registers],
+        };
+        assert!(settings.fit());
+        settings.words()
+    }
+
+    #[test]
+    fn the_least_and_the_largest_settings_need_so_many_words() {
+        let least = Windows {
+            bucket: 1,
+            slots: 2,
+            ..Windows::default()
+        };
+        assert_eq!(words(1, 1, 2, least), 194);
+        let hour = Window {
+            behind: 3_600_000,
+            ahead: 3_600_000,
+        };
+        let largest = Windows {
+            origin: hour,
+            copy: hour,
+            bucket: 28_347,
+            slots: 1_024,
+        };
+        assert_eq!(largest.ring(), 256);
+        assert_eq!(words(4, 64, 512, largest), 3_358_592);
     }
 }

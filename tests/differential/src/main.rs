@@ -4,8 +4,8 @@
 //!     differential cut < LIST         cuts a list on which the two differ down to the smallest one
 //!
 //! After every few calls both are asked for everything that they can tell: dumps, floors, sweeps, pending, the entries of every
-//! deliverer that came up, and the class totals. At the first difference the list is cut down to the smallest one that shows it and
-//! printed as a list of calls (docs/CALLS.md) with the Rust's answers; the status is then 1.
+//! deliverer that came up, the class totals, and the views of each register and deliverer. At the first difference the list is cut
+//! down to the smallest one that shows it and printed as a list of calls (docs/CALLS.md) with the Rust's answers; the status is then 1.
 
 #[path = "../../oracle/src/book.rs"]
 mod book;

@@ -116,12 +116,21 @@ struct All {
     class: Vec<u64>,
 }
 
-/// The calls of one name: of all that is of its part, and none where it has more than one.
+/// The calls of one name: of all that is of its part, a view into an output that is long enough, and none where it has more parts.
 macro_rules! each {
     ($all:ident, $look:ident($part:ident)) => {
         $all.$part
             .iter()
             .map(|$part| Look::$look { $part: *$part })
+            .collect()
+    };
+    ($all:ident, $look:ident($part:ident, length)) => {
+        $all.$part
+            .iter()
+            .map(|$part| Look::$look {
+                $part: *$part,
+                length: None,
+            })
             .collect()
     };
     ($all:ident, $look:ident($($part:ident),*)) => {

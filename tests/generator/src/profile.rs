@@ -74,6 +74,8 @@ pub struct Weights {
     pub look: u64,
     /// A call with a code or number that is not listed.
     pub unfit: u64,
+    /// A register or a deliverer viewed, into an output of some length or of enough.
+    pub view: u64,
 }
 
 impl Weights {
@@ -100,6 +102,7 @@ impl Weights {
         every_field: 0,
         look: 120,
         unfit: 0,
+        view: 0,
     };
 }
 

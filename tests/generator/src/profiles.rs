@@ -5,7 +5,7 @@ use crate::profile::{Clock, Levels, Profile, Spans, Weights};
 const USUAL: Profile = Profile::USUAL;
 const WEIGHTS: Weights = Weights::USUAL;
 
-pub static ALL: [Profile; 13] = [
+pub static ALL: [Profile; 14] = [
     Profile {
         name: "full",
         about: "tables that are often full: slots, places, pairs and limits of a few",
@@ -276,6 +276,32 @@ pub static ALL: [Profile; 13] = [
         },
         stretch: (150, 400),
         meant: &["modest", "full: part", "late: position"],
+        ..USUAL
+    },
+    Profile {
+        name: "meters",
+        about: "what is remembered of meters and registers, viewed between tickets, dumps and expiry",
+        slots: &[4, 8, 16],
+        pairs: &[2, 3, 5, 8],
+        parties: 3,
+        weights: Weights {
+            tick: 50,
+            dump: 30,
+            restore: 30,
+            restore_made: 40,
+            view: 500,
+            ..WEIGHTS
+        },
+        stretch: (40, 160),
+        meant: &[
+            "viewed",
+            "refused 1",
+            "refused 4",
+            "refused 8",
+            "whole",
+            "partly",
+            "expired",
+        ],
         ..USUAL
     },
 ];

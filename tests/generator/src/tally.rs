@@ -14,7 +14,7 @@ pub struct Tally {
 }
 
 /// Everything that is counted, in the order in which it is printed.
-pub const COUNTED: [&str; 33] = [
+pub const COUNTED: [&str; 35] = [
     "opened",
     "new",
     "duplicate",
@@ -40,6 +40,7 @@ pub const COUNTED: [&str; 33] = [
     "refused 5",
     "refused 6",
     "refused 7",
+    "refused 8",
     "by relay",
     "by restored",
     "struck again",
@@ -48,6 +49,7 @@ pub const COUNTED: [&str; 33] = [
     "limits",
     "closed",
     "looked",
+    "viewed",
 ];
 
 fn full(cause: Option<Cause>) -> &'static str {
@@ -83,6 +85,7 @@ fn refused(number: u64) -> &'static str {
         5 => "refused 5",
         6 => "refused 6",
         7 => "refused 7",
+        8 => "refused 8",
         _ => unreachable!("2 and 3 are no answers of a machine without lent words"),
     }
 }
@@ -96,6 +99,7 @@ fn kind(call: &Call, answer: &Answer, noted: &Noted) -> &'static str {
         (_, Answer::Already) => "already",
         (_, Answer::Whole(_)) => "whole",
         (_, Answer::Partly(_)) => "partly",
+        (_, Answer::Viewed(_)) => "viewed",
         (Call::Dump { .. }, _) => "dumped",
         (Call::Expire { .. }, _) => "expired",
         (Call::Limits(_), _) => "limits",

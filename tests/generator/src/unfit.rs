@@ -52,12 +52,18 @@ fn limits(fit: Limits, random: &mut Random) -> Limits {
     Limits::of(numbers)
 }
 
-fn who(random: &mut Random) -> Who {
+/// A deliverer that is not listed.
+pub fn who(random: &mut Random) -> Who {
     match random.below(3) {
         0 => Who::Restored(past(2, random)),
         1 => Who::Kind(3, past(2, random)),
         _ => Who::Kind(past(3, random), random.below(3)),
     }
+}
+
+/// The number of a register that is not there.
+pub fn register(fit: &Settings, random: &mut Random) -> u64 {
+    past(fit.registers - 1, random)
 }
 
 /// A listed deliverer named by its code, which is fit.
@@ -70,7 +76,7 @@ fn by_code(random: &mut Random) -> Who {
 pub fn call(fit: &Settings, ticket: Ticket, random: &mut Random) -> Call {
     let form = random.pick(&[Form::Judge, Form::Take, Form::JudgeBatch, Form::TakeBatch]);
     let ask = |ticket| Call::Ask { form, ticket };
-    let register = past(fit.registers - 1, random);
+    let register = register(fit, random);
     match random.below(24) {
         0..4 => {
             let starts = vec![Start::Empty; fit.windows.len()];

@@ -3,7 +3,7 @@
 
 use generator::random::Random;
 
-use crate::scene::{FRONT, HEADING, Scene, anything};
+use crate::scene::{FRONT, HEAD, HEADING, Scene, anything};
 
 /// What was done to the words, for the counts.
 #[derive(Clone, Copy, Debug, PartialEq, Eq, PartialOrd, Ord, Hash)]
@@ -242,22 +242,22 @@ fn in_a_generation(scene: &Scene, words: &mut [u64], random: &mut Random) {
         .map(|_| at_of(random))
         .find(|at| words[at + 1] != 0)
         .unwrap_or_else(|| at_of(random));
-    let slots = (words[at] as usize).min(width - 4);
+    let slots = (words[at] as usize).min(width - HEAD);
     if slots == 0 {
         // A generation that holds nothing but says otherwise.
         match random.below(3) {
-            0 => words[at + random.below(3) as usize] = random.pick(&[1, 2, 1 << 62]),
+            0 => words[at + random.pick(&[0, 1, 2, 4])] = random.pick(&[1, 2, 1 << 62]),
             1 => words[at + 3] = anything(random),
             _ => {
                 words[at] = 2;
                 words[at + 1] = 1;
-                words[at + 4 + random.below(2) as usize] = random.between(1, 9);
+                words[at + HEAD + random.below(2) as usize] = random.between(1, 9);
             }
         }
         return;
     }
-    let slot = |random: &mut Random| at + 4 + random.below(slots as u64) as usize;
-    match random.below(9) {
+    let slot = |random: &mut Random| at + HEAD + random.below(slots as u64) as usize;
+    match random.below(11) {
         // Two slots exchanged: reached or not.
         0 | 1 => {
             let (a, b) = (slot(random), slot(random));
@@ -288,6 +288,13 @@ fn in_a_generation(scene: &Scene, words: &mut [u64], random: &mut Random) {
             words[at + 3] =
                 words[at + 3].wrapping_add(random.pick(&[ring as u64, 1, u64::MAX, 1 << 63]))
         }
+        // The oldest stamp up to the newest, and past it.
+        8 => {
+            words[at + 4] = words[at + 2]
+                .saturating_add(random.below(3))
+                .wrapping_sub(1)
+        }
+        9 => words.swap(at + 2, at + 4),
         // Another generation's words.
         _ => {
             let other = at_of(random);

@@ -3,16 +3,27 @@
 use generator::damage;
 use generator::dump::{Dump, Listed, OVERFLOWING};
 use generator::random::Random;
-use soundness::{Call, SETTINGS};
+use soundness::{Call, Due, SETTINGS, refusal, view};
 
 use crate::alter::{Altered, alter};
 use crate::scene::{Scene, anything};
 
-/// Whether none of the arguments is a run of words that may be altered.
+/// The words of an output for a view at most: more than a view of any scene takes.
+pub const MOST_VIEWED: usize = 1_024;
+
+/// Whether the lent words are none that may be altered.
 macro_rules! only_reads {
-    ($run:ident: &mut [u64] $($left:tt)*) => { false };
+    (words: &mut [u64] $($left:tt)*) => { false };
     ($next:tt $($left:tt)*) => { only_reads!($($left)*) };
     () => { true };
+}
+
+/// The output among the arguments, if there is one.
+macro_rules! output {
+    (out: &mut [u8] $($left:tt)*) => { Some(Output::Bytes) };
+    (out: &mut [u64] $($left:tt)*) => { Some(Output::Words) };
+    ($next:tt $($left:tt)*) => { output!($($left)*) };
+    () => { None };
 }
 
 /// The names of arguments.
@@ -46,6 +57,13 @@ macro_rules! list {
                 }
             }
 
+            /// What it writes at the start of an output, if it is lent one.
+            pub fn output(self) -> Option<Output> {
+                match self {
+                    $(Self::$name => output!($($arguments)*)),*
+                }
+            }
+
             /// Whether it leaves every word as it is, even where nothing refuses it.
             pub fn only_reads(self) -> bool {
                 match self {
@@ -57,6 +75,13 @@ macro_rules! list {
 }
 
 strikes::entries!(list);
+
+/// What an output is of: a dump is bytes, and a view words.
+#[derive(Clone, Copy, Debug, PartialEq, Eq)]
+pub enum Output {
+    Bytes,
+    Words,
+}
 
 /// The numbers that entry points take, under the names of the arguments; each takes some of them.
 #[derive(Clone, Copy, Debug, Default)]
@@ -81,8 +106,10 @@ pub struct Input {
     pub limits: Vec<u64>,
     pub starts: Vec<u64>,
     pub bytes: Vec<u8>,
-    /// The output as it is lent.
+    /// The output of a dump as it is lent.
     pub out: Vec<u8>,
+    /// That of a view.
+    pub view: Vec<u64>,
     pub numbers: Numbers,
     pub altered: Altered,
 }
@@ -92,7 +119,7 @@ impl Input {
         let mut words = scene.words.clone();
         let altered = alter(scene, &mut words, random);
         lend(&mut words, random);
-        Self {
+        let mut input = Self {
             entry: random.pick(Entry::ALL),
             settings: settings(scene, random),
             words,
@@ -100,8 +127,43 @@ impl Input {
             starts: starts(random),
             bytes: bytes(scene, random),
             out: vec![random.below(256) as u8; output(random)],
+            view: Vec::new(),
             numbers: numbers(scene, random),
             altered,
+        };
+        if input.entry.output() == Some(Output::Words) {
+            input.view = vec![random.word(); input.view_length(scene, random)];
+        }
+        input
+    }
+
+    /// The words of an output for a view: about what the view of the scene's own words takes, enough, or any.
+    fn view_length(&self, scene: &Scene, random: &mut Random) -> usize {
+        let own = Call {
+            words: Some(&scene.words),
+            view: Some(usize::MAX),
+            ..self.call()
+        };
+        let settings = machine::settings_words(&scene.settings);
+        let about = match refusal(&settings, &own) {
+            Due::No => view(&scene.settings, &own).map_or(0, |view| view.len()),
+            _ => 0,
+        };
+        match random.below(8) {
+            0 => random.below(64) as usize,
+            1 => MOST_VIEWED,
+            _ => (about + random.below(5) as usize)
+                .saturating_sub(2)
+                .min(MOST_VIEWED),
+        }
+    }
+
+    /// The length of the output that its entry point is lent.
+    pub fn output_length(&self) -> usize {
+        match self.entry.output() {
+            Some(Output::Bytes) => self.out.len(),
+            Some(Output::Words) => self.view.len(),
+            None => 0,
         }
     }
 
@@ -109,6 +171,7 @@ impl Input {
     pub fn call(&self) -> Call<'_> {
         let n = self.numbers;
         let takes = |argument| self.entry.arguments().contains(&argument);
+        let lent = |of| (self.entry.output() == Some(of)).then(|| self.output_length());
         Call {
             words: takes("words").then_some(&self.words),
             limits: takes("limits").then_some(&self.limits),
@@ -118,7 +181,8 @@ impl Input {
             deliverer: takes("kind").then_some((n.kind, n.number)),
             class: takes("class").then_some(n.class),
             bytes: takes("bytes").then_some(&self.bytes),
-            out: takes("out").then_some(self.out.len()),
+            out: lent(Output::Bytes),
+            view: lent(Output::Words),
         }
     }
 }

@@ -1,9 +1,9 @@
 //! What a call left, held against what is due.
 
-use soundness::{Due, broken, refusal, settings_of};
+use soundness::{Due, broken, refusal, settings_of, view};
 
 use crate::guard::Against;
-use crate::input::Input;
+use crate::input::{Input, Output};
 use crate::lent::{After, BEFORE, Lent};
 
 /// The largest that an out number can be, by its name.
@@ -12,7 +12,7 @@ fn most(input: &Input, out: &str) -> u64 {
         "verdict" => 5,
         "held" | "begun" | "whole" | "present" | "pending" => 1,
         "read" => input.bytes.len() as u64,
-        "written" => input.out.len() as u64,
+        "written" => input.output_length() as u64,
         _ => u64::MAX,
     }
 }
@@ -39,7 +39,7 @@ pub fn judge(lent: &mut Lent, input: &Input, against: Against) -> Result<Due, St
 }
 
 fn refused(input: &Input, after: &After) -> Result<(), String> {
-    let kept = after.words == input.words && after.out == input.out && after.numbers == BEFORE;
+    let kept = after.words == input.words && kept_past(0, input, after) && after.numbers == BEFORE;
     if kept {
         Ok(())
     } else {
@@ -48,6 +48,16 @@ fn refused(input: &Input, after: &After) -> Result<(), String> {
             after.number
         ))
     }
+}
+
+/// Whether outputs are as they were past what was written into the one that the call is lent.
+fn kept_past(written: usize, input: &Input, after: &After) -> bool {
+    let (bytes, words) = match input.entry.output() {
+        Some(Output::Bytes) => (written, 0),
+        Some(Output::Words) => (0, written),
+        None => (0, 0),
+    };
+    after.out[bytes..] == input.out[bytes..] && after.view[words..] == input.view[words..]
 }
 
 fn went_through(input: &Input, after: &After) -> Result<(), String> {
@@ -66,8 +76,17 @@ fn went_through(input: &Input, after: &After) -> Result<(), String> {
             written = number as usize;
         }
     }
-    if after.out[written..] != input.out[written..] {
+    if !kept_past(written, input, after) {
         return Err("output past what was written was altered".into());
+    }
+    if input.entry.output() == Some(Output::Words) {
+        let due = view(&settings, &input.call());
+        if due.as_deref() != Some(&after.view[..written]) {
+            return Err(format!(
+                "{due:?} is due, but {:?} is written",
+                &after.view[..written]
+            ));
+        }
     }
     if input.entry.only_reads() {
         let same = after.words == input.words;

@@ -3,7 +3,7 @@
 use strikes::abi;
 
 use crate::guard::{Against, Region};
-use crate::input::{Entry, Input, Numbers};
+use crate::input::{Entry, Input, MOST_VIEWED, Numbers};
 
 /// The out numbers of an entry point, at most.
 const OUTS: usize = 4;
@@ -16,6 +16,7 @@ pub struct Lent {
     starts: Region,
     bytes: Region,
     out: Region,
+    view: Region,
     numbers: Region,
 }
 
@@ -24,6 +25,7 @@ pub struct After {
     pub number: u64,
     pub words: Vec<u64>,
     pub out: Vec<u8>,
+    pub view: Vec<u64>,
     pub numbers: [u64; OUTS],
     /// Whether all that is only read, and all memory around what was lent, is as it was.
     pub untouched: bool,
@@ -46,6 +48,7 @@ impl Lent {
             starts: Region::new(1),
             bytes: Region::new(16_384),
             out: Region::new(8_192),
+            view: Region::new(8 * MOST_VIEWED),
             numbers: Region::new(1),
         }
     }
@@ -63,6 +66,7 @@ impl Lent {
             number,
             words: seen(at.words),
             out: seen(at.out),
+            view: seen(at.view),
             numbers: told,
             untouched: read_only,
         };
@@ -73,6 +77,7 @@ impl Lent {
             self.starts.clean(8 * input.starts.len(), against),
             self.bytes.clean(input.bytes.len(), against),
             self.out.clean(input.out.len(), against),
+            self.view.clean(8 * input.view.len(), against),
             self.numbers.clean(8 * OUTS, against),
         ];
         After {
@@ -89,13 +94,15 @@ impl Lent {
             starts: self.starts.lay_words(&input.starts, against),
             bytes: self.bytes.lay(&input.bytes, against),
             out: self.out.lay(&input.out, against),
+            view: self.view.lay_words(&input.view, against),
             numbers: input.numbers,
             outs: self.numbers.lay_words(&BEFORE, against),
         }
     }
 }
 
-/// The arguments of all entry points by their names: runs, and numbers; and where the out numbers lie.
+/// The arguments of all entry points by their names: runs, of which an output of words is the view, and numbers; and where the out
+/// numbers lie.
 struct At {
     settings: *const [u64],
     words: *mut [u64],
@@ -103,12 +110,16 @@ struct At {
     starts: *const [u64],
     bytes: *const [u8],
     out: *mut [u8],
+    view: *mut [u64],
     numbers: Numbers,
     outs: *mut [u64],
 }
 
 macro_rules! argument {
-    ($at:ident, $run:ident: $of:ty) => {
+    ($at:ident, out: u64) => {
+        $at.view
+    };
+    ($at:ident, $run:ident: $of:ident) => {
         $at.$run
     };
     ($at:ident, $number:ident) => {
@@ -117,7 +128,7 @@ macro_rules! argument {
 }
 
 macro_rules! calls {
-    ($($(#[$doc:meta])* $name:ident($($arg:ident $(: $run:ty)?),*) -> ($($out:ident),*);)*) => {
+    ($($(#[$doc:meta])* $name:ident($($arg:ident $(: &$($mutable:ident)? [$of:ident])?),*) -> ($($out:ident),*);)*) => {
         /// The entry point itself, with the arguments and the out numbers that it has in the table.
         ///
         /// Safety: all memory was laid down.
@@ -128,7 +139,7 @@ macro_rules! calls {
                 None => panic!("there is no place for {out}"),
             };
             match entry {
-                $(Entry::$name => unsafe { abi::$name($(argument!(at, $arg $(: $run)?),)* $(place_of(stringify!($out))),*) }),*
+                $(Entry::$name => unsafe { abi::$name($(argument!(at, $arg $(: $of)?),)* $(place_of(stringify!($out))),*) }),*
             }
         }
     };

@@ -1,5 +1,5 @@
 //! Hostile memory: random and damaged words, settings, codes, dumps and lengths into every entry point, the lent memory between guard
-//! pages, and every answer held against a soundness test of its own (tests/soundness).
+//! pages, and every answer held against a soundness test of its own (tests/soundness), and every view against the words that it is of.
 //!
 //!     hostile SEED N        N inputs
 //!     hostile one SEED I    input I alone

@@ -160,7 +160,7 @@ fn run(input: &Input, name: &str) -> String {
             limits.join(" ")
         }
         "bytes" => Hex(&input.bytes).to_string(),
-        "out" => input.out.len().to_string(),
+        "out" => input.output_length().to_string(),
         _ => String::new(),
     }
 }

@@ -17,6 +17,8 @@ pub struct Layout {
 
 pub const FRONT: usize = 20;
 pub const HEADING: usize = 24;
+/// The words of a generation before its slots: slots, held, newest, bucket, oldest.
+pub const HEAD: usize = 5;
 
 impl Layout {
     pub fn of(settings: &Settings) -> Self {
@@ -25,7 +27,7 @@ impl Layout {
         let mut at = FRONT + 3 * class;
         let mut registers = Vec::new();
         for windows in &settings.windows {
-            let (width, ring) = (windows.slots as usize + 4, windows.ring() as usize);
+            let (width, ring) = (windows.slots as usize + HEAD, windows.ring() as usize);
             registers.push((at, width, ring));
             at += HEADING + 3 * ring * width;
         }
@@ -274,7 +276,7 @@ impl Scene {
         } else {
             random.between(1, 3 * slots / 4)
         };
-        let table = at + 4..at + 4 + slots as usize;
+        let table = at + HEAD..at + HEAD + slots as usize;
         let first = random.below(slots);
         let mut inserted = 0;
         while inserted < held {
@@ -285,6 +287,7 @@ impl Scene {
             inserted += u64::from(insert(&mut self.words[table.clone()], fingerprint));
         }
         let newest = random.pick(&[0, 1, u64::MAX, self.reading]);
+        let oldest = random.pick(&[0, newest / 2, newest]);
         // The buckets of this position reach up to 2^64.
         let last = (u64::MAX - position) / ring;
         let turn = match random.below(3) {
@@ -292,7 +295,8 @@ impl Scene {
             1 => random.below(last) + 1,
             _ => (self.reading / 1_000 / ring).min(last),
         };
-        self.words[at..at + 4].copy_from_slice(&[slots, held, newest, position + turn * ring]);
+        let head = [slots, held, newest, position + turn * ring, oldest];
+        self.words[at..at + HEAD].copy_from_slice(&head);
     }
 }
 

@@ -4,7 +4,7 @@
 use std::sync::Arc;
 
 use calls::call::Ticket;
-use calls::{Answer, Form, Limits, Look, Settings, Start, Verdict, Who};
+use calls::{Answer, Form, Length, Limits, Look, Settings, Start, Verdict, Who};
 use relay::footprint;
 use relay::ingest::Stamp;
 use relay::stage::{self, Stage};
@@ -157,10 +157,28 @@ impl Book {
                     expired.into(),
                 ])
             }
+            Look::ViewRegister { register, length } => {
+                view(reading::generations(table(register)).concat(), length)
+            }
+            Look::ViewDeliverer { who, length } => {
+                let who = deliverer(who.listed().expect("refused as unfit"));
+                let pairs = reading::pairs(&self.shares, who).into_iter();
+                let words = pairs.flat_map(|(second, count)| [second.into(), count.into()]);
+                let entries = reading::held(&self.shares, who) as u64;
+                view(words.chain([entries]).collect(), length)
+            }
             // One that the Rust has no answer to, if there is any.
             #[allow(unreachable_patterns)]
             _ => Answer::Apart,
         }
+    }
+}
+
+/// A view's words, where the output has room for them.
+fn view(words: Vec<u64>, length: Length) -> Answer {
+    match length {
+        Some(length) if length < words.len() as u64 => Answer::Refused(refusals::SHORT_VIEW),
+        _ => Answer::Viewed(words),
     }
 }
 

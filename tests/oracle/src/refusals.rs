@@ -1,9 +1,9 @@
 //! The refusals that the Rust does not have, as document 01 states them, tested before the Rust
 //! is called: 1 for what no listed code or bound allows, 4 for a register that is not there.
 //!
-//! Nothing here knows what a register holds. 6 and 7 are the Rust's own answers, and 5 compares
-//! the length of the Rust's dump with the output's. 2 and 3 speak of lent words, which the Rust
-//! does not have: what would be refused with them is not run at all (`oracle.rs`).
+//! Nothing here knows what a register holds. 6 and 7 are the Rust's own answers, 5 compares the
+//! length of the Rust's dump with the output's, and 8 that of a view. 2 and 3 speak of lent words,
+//! which the Rust does not have: what would be refused with them is not run at all (`oracle.rs`).
 
 use calls::{Call, Part, Settings, Start};
 
@@ -12,6 +12,7 @@ pub const NO_REGISTER: u64 = 4;
 pub const SHORT_OUTPUT: u64 = 5;
 pub const PENDING: u64 = 6;
 pub const CUT_SHORT: u64 = 7;
+pub const SHORT_VIEW: u64 = 8;
 
 /// The first refusal that the call's own arguments earn.
 pub fn of(call: &Call, settings: &Settings) -> Option<u64> {

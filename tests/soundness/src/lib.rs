@@ -1,11 +1,14 @@
-//! Whether lent words are sound, and which refusal a call earns: written from the scope paper ("Who causes which reply", "Settings and
-//! soundness", "Dump") and the table of words in docs/ARCHITECTURE.md alone. It shares no line with the register, and is what the
-//! register's answers to damaged words are held against.
+//! Whether lent words are sound, which refusal a call earns, and what a view of them tells: written from the scope paper ("Who causes which
+//! reply", "Settings and soundness", "Dump"), the request for views and the table of words in docs/ARCHITECTURE.md alone. It shares no line
+//! with the register, and is what the register's answers to damaged words are held against.
 
+mod parts;
 mod refusal;
+mod view;
 mod words;
 
 pub use refusal::{Call, Due, refusal};
+pub use view::view;
 pub use words::{Broken, broken, sound};
 
 use calls::{Settings, Window, Windows};

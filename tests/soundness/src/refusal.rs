@@ -1,9 +1,10 @@
-//! Which refusal a call earns, from its arguments and the lent words: "Tried in the order 1, 2, 3, 4, 6, 5, 7."
+//! Which refusal a call earns, from its arguments and the lent words: "Tried in the order 1, 2, 3, 4, 6, 5, 7", and 8 "tried after 4".
 
 use calls::{Limits, Settings};
 
+use crate::view::view;
 use crate::words::broken;
-use crate::{Broken, settings_of};
+use crate::{Broken, parts, settings_of};
 
 /// What of a call's arguments, beside the settings, can earn a refusal. What it does not take is None.
 #[derive(Clone, Copy, Debug, Default)]
@@ -19,8 +20,10 @@ pub struct Call<'a> {
     pub class: Option<u64>,
     /// A dump to be read.
     pub bytes: Option<&'a [u8]>,
-    /// The length of an output for a dump.
+    /// The bytes of an output for a dump.
     pub out: Option<usize>,
+    /// The words of an output for a view.
+    pub view: Option<usize>,
 }
 
 /// What refuses a call, with the rule that the words break.
@@ -59,27 +62,26 @@ pub fn refusal(settings: &[u64], call: &Call<'_>) -> Due {
     if let Some(rule) = broken(&settings, words) {
         return Due::Unsound(rule);
     }
-    match call.register {
-        Some(register) => on_register(&settings, words, register, call),
-        None => Due::No,
-    }
+    on_sound(&settings, words, call).map_or(Due::No, Due::Number)
 }
 
-/// Of a call on a register, whose words are sound.
-fn on_register(settings: &Settings, words: &[u64], register: u64, call: &Call<'_>) -> Due {
-    if register >= settings.registers {
-        return Due::Number(4);
-    }
-    if let Some(number) = call
-        .out
-        .and_then(|out| dump_refusal(settings, words, register, out))
+/// Of a call whose words are sound.
+fn on_sound(settings: &Settings, words: &[u64], call: &Call<'_>) -> Option<u64> {
+    if call
+        .register
+        .is_some_and(|register| register >= settings.registers)
     {
-        return Due::Number(number);
+        return Some(4);
     }
-    match call.bytes {
-        Some(bytes) if length_of(bytes).is_none() => Due::Number(7),
-        _ => Due::No,
+    if let Some(length) = call.view {
+        let view = view(settings, call)?;
+        return (length < view.len()).then_some(8);
     }
+    if let (Some(out), Some(register)) = (call.out, call.register) {
+        return dump_refusal(settings, words, register, out);
+    }
+    let cut = |bytes: &[u8]| length_of(bytes).is_none();
+    call.bytes.is_some_and(cut).then_some(7)
 }
 
 /// Whether its codes are listed and its numbers within their bounds.
@@ -113,23 +115,12 @@ fn deliverer_fits((kind, number): (u64, u64)) -> bool {
 
 /// 6 for a register that is pending, 5 for an output shorter than its dump.
 fn dump_refusal(settings: &Settings, words: &[u64], register: u64, out: usize) -> Option<u64> {
-    let place = 2 * settings.pairs as usize + 4;
-    let mut at = 20 + 3 * (4 + settings.places as usize * place);
-    for windows in &settings.windows[..register as usize] {
-        at += 24 + 3 * windows.ring() as usize * (windows.slots as usize + 4);
-    }
-    if words[at + 10] == 1 {
+    let (heading, generations) = parts::register(settings, words, register);
+    if heading[10] == 1 {
         return Some(6);
     }
-    let windows = settings.windows[register as usize];
-    let generations = words[at + 24..]
-        .chunks(windows.slots as usize + 4)
-        .take(3 * windows.ring() as usize);
     // A floor, a count for each class, and of each held generation its bucket, newest, length and fingerprints.
-    let listed: u64 = generations
-        .filter(|generation| generation[1] != 0)
-        .map(|generation| 3 + generation[1])
-        .sum();
+    let listed: u64 = generations.map(|generation| 3 + generation[1]).sum();
     ((out as u64) < 8 * (4 + listed)).then_some(5)
 }
 

@@ -1,6 +1,6 @@
 //! The rules tried one by one on the smallest words: one register of ring 2 and S 2, two places of two pairs.
 
-use crate::{Broken, Call, broken, refusal, settings_of};
+use crate::{Broken, Call, broken, refusal, settings_of, view};
 
 fn settings() -> [u64; 29] {
     let mut words = [0; 29];
@@ -8,10 +8,10 @@ fn settings() -> [u64; 29] {
     words
 }
 
-/// 20 words of the front, three classes of 4 + 2 × 8, then a register of 24 + 3 × 2 × 6, then 3 × 24.
+/// 20 words of the front, three classes of 4 + 2 × 8, then a register of 24 + 3 × 2 × 7, then 3 × 24.
 const CLASSES: usize = 20;
 const REGISTER: usize = 20 + 3 * 20;
-const NEEDED: usize = REGISTER + 24 + 36 + 72;
+const NEEDED: usize = REGISTER + 24 + 42 + 72;
 
 fn opened() -> Vec<u64> {
     let mut words = vec![0; NEEDED];
@@ -21,11 +21,11 @@ fn opened() -> Vec<u64> {
     words
 }
 
-/// One Feeder with two entries in one second, and one fingerprint in bucket 4 at position 0.
+/// One Feeder with two entries in one second, and one fingerprint in bucket 4 at position 0, with stamps from 3 to 5.
 fn taken() -> Vec<u64> {
     let mut words = opened();
     words[CLASSES..CLASSES + 12].copy_from_slice(&[2, 1, 3, 0, 0, 77, 2, 1, 9, 2, 0, 0]);
-    words[REGISTER + 24..REGISTER + 30].copy_from_slice(&[2, 1, 5, 4, 0, 7]);
+    words[REGISTER + 24..REGISTER + 31].copy_from_slice(&[2, 1, 5, 4, 3, 0, 7]);
     words
 }
 
@@ -51,7 +51,7 @@ fn opened_and_taken_words_are_sound() {
 fn each_rule_is_noticed() {
     let place = CLASSES + 4;
     let generation = REGISTER + 24;
-    let cases: [(&[(usize, u64)], Option<Broken>); 32] = [
+    let cases: [(&[(usize, u64)], Option<Broken>); 38] = [
         (&[(0, 2)], Some(Broken::KeptSettings)),
         (&[(REGISTER + 3, 1)], Some(Broken::KeptSettings)),
         (&[(5, 1_000_001)], Some(Broken::KeptLimits)),
@@ -97,10 +97,16 @@ fn each_rule_is_noticed() {
         (&[(generation, 3)], Some(Broken::Slots)),
         (&[(generation + 1, 1 << 62)], Some(Broken::Load)),
         (&[(generation + 3, 3)], Some(Broken::Position)),
-        (&[(generation + 4, 8)], Some(Broken::HeldNumber)),
-        (&[(generation + 5, 8)], Some(Broken::Reached)),
-        (&[(generation + 6 + 3, 12)], None),
-        (&[(generation + 6 + 4, 12)], Some(Broken::SlotsPast)),
+        (&[(generation + 4, 6)], Some(Broken::Oldest)),
+        (&[(generation + 4, u64::MAX)], Some(Broken::Oldest)),
+        (&[(generation + 4, 5)], None),
+        (&[(generation + 4, 0)], None),
+        (&[(generation + 5, 8)], Some(Broken::HeldNumber)),
+        (&[(generation + 6, 8)], Some(Broken::Reached)),
+        (&[(generation + 7 + 2, 12)], Some(Broken::EmptyGeneration)),
+        (&[(generation + 7 + 3, 12)], None),
+        (&[(generation + 7 + 4, 12)], Some(Broken::EmptyGeneration)),
+        (&[(generation + 7 + 5, 12)], Some(Broken::SlotsPast)),
     ];
     for (pokes, due) in cases {
         let mut words = taken();
@@ -153,6 +159,62 @@ fn refusals_come_in_their_order() {
     long[8] = 1;
     long[32..40].copy_from_slice(&((1u64 << 61) - 3).to_le_bytes());
     assert_eq!(number(&settings, &words, restore(&long)), 7);
+}
+
+#[test]
+fn views_are_as_long_as_what_they_list() {
+    let (settings, words) = (settings(), taken());
+    let of = |register, deliverer| Call {
+        words: Some(&words),
+        register,
+        deliverer,
+        ..Call::default()
+    };
+    let cases: [(Call<'_>, &[u64]); 6] = [
+        (of(Some(0), None), &[4, 3, 5, 1]),
+        (of(None, Some((0, 77))), &[9, 2, 2]),
+        (of(None, Some((0, 78))), &[0]),
+        (of(None, Some((1, 77))), &[0]),
+        (of(None, Some((2, 77))), &[0]),
+        (of(None, Some((3, 0))), &[0]),
+    ];
+    for (call, due) in cases {
+        let fit = settings_of(&settings).expect("fit settings");
+        assert_eq!(view(&fit, &call).as_deref(), Some(due), "{call:?}");
+        let refused = |length| {
+            let view = Some(length);
+            refusal(&settings, &Call { view, ..call }).number()
+        };
+        assert_eq!(refused(due.len() - 1), 8, "{call:?}");
+        assert_eq!(refused(due.len()), 0, "{call:?}");
+        assert_eq!(refused(due.len() + 1), 0, "{call:?}");
+    }
+}
+
+#[test]
+fn a_view_is_refused_as_too_short_after_all_else() {
+    let (settings, mut words) = (settings(), taken());
+    let number = |words: &[u64], register, deliverer| {
+        let call = Call {
+            words: Some(words),
+            register,
+            deliverer,
+            view: Some(0),
+            ..Call::default()
+        };
+        refusal(&settings, &call).number()
+    };
+    assert_eq!(number(&words[1..], None, Some((3, 3))), 1);
+    assert_eq!(number(&words[1..], None, Some((0, 77))), 2);
+    assert_eq!(number(&words[1..], Some(1), None), 2);
+    assert_eq!(number(&words, Some(1), None), 4);
+    // A pending register is served, and one that holds nothing has no words to write.
+    words[REGISTER + 10] = 1;
+    assert_eq!(number(&words, Some(0), None), 8);
+    assert_eq!(number(&opened(), Some(0), None), 0);
+    assert_eq!(number(&opened(), None, Some((0, 77))), 8);
+    words[REGISTER + 24 + 4] = 6;
+    assert_eq!(number(&words, Some(1), None), 3);
 }
 
 #[test]

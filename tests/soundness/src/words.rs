@@ -2,6 +2,8 @@
 
 use calls::{Limits, Settings, Windows};
 
+use crate::parts::HEAD;
+
 /// The first rule that words break, in the order in which they are read.
 #[derive(Clone, Copy, Debug, PartialEq, Eq, Hash, PartialOrd, Ord)]
 pub enum Broken {
@@ -25,6 +27,7 @@ pub enum Broken {
     Slots,
     Load,
     Position,
+    Oldest,
     HeldNumber,
     SlotsPast,
     Reached,
@@ -57,7 +60,7 @@ fn all(settings: &Settings, words: &[u64]) -> Rule {
     }
     let mut rest = rest;
     for windows in &settings.windows {
-        let generation = windows.slots as usize + 4;
+        let generation = windows.slots as usize + HEAD;
         let (register, after) = rest.split_at(24 + 3 * windows.ring() as usize * generation);
         register_rules(windows, register, generation)?;
         rest = after;
@@ -183,13 +186,14 @@ fn register_rules(windows: &Windows, register: &[u64], width: usize) -> Rule {
     Ok(())
 }
 
-/// "A generation has 0 slots exactly when it holds 0, and then newest is 0."
+/// "A generation has 0 slots exactly when it holds 0, and then newest is 0"; its oldest stamp is "0 when empty", and otherwise "a sound
+/// generation has oldest ≤ newest".
 fn generation_rules(ring: u64, position: u64, most: u64, generation: &[u64]) -> Rule {
-    let (head, table) = generation.split_at(4);
-    let [slots, held, newest, bucket] = [head[0], head[1], head[2], head[3]];
+    let (head, table) = generation.split_at(HEAD);
+    let [slots, held, newest, bucket, oldest] = [head[0], head[1], head[2], head[3], head[4]];
     if slots == 0 || held == 0 {
         must(
-            slots == 0 && held == 0 && newest == 0,
+            [slots, held, newest, oldest] == [0; 4],
             Broken::EmptyGeneration,
         )?;
         return must(table.iter().all(|slot| *slot == 0), Broken::SlotsPast);
@@ -200,6 +204,7 @@ fn generation_rules(ring: u64, position: u64, most: u64, generation: &[u64]) -> 
     )?;
     must(4 * u128::from(held) <= 3 * u128::from(slots), Broken::Load)?;
     must(bucket % ring == position, Broken::Position)?;
+    must(oldest <= newest, Broken::Oldest)?;
     let (table, past) = table.split_at(slots as usize);
     must(past.iter().all(|slot| *slot == 0), Broken::SlotsPast)?;
     let count = table.iter().filter(|slot| **slot != 0).count();

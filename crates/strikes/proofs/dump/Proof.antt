@@ -1,6 +1,6 @@
 use borrow.Author.Needs.{needs}
 use Rattle.strikes.proofs.OnRegister.{words-there}
-use Rattle.strikes.proofs.OnDump.{dump-shut, dump-turned-down, output-holds, dump-told}
+use Rattle.strikes.proofs.OnOutput.{dump-shut, dump-turned-down, output-holds, dump-told}
 use Rattle.strikes.proofs.dump.Statement.{statement}
 use Rattle.strikes.proofs.dump.Tie as tie
 

@@ -1,5 +1,5 @@
 use borrow.Author.Needs.{needs}
-use Rattle.strikes.proofs.OnDump.{refusal-reads}
+use Rattle.strikes.proofs.OnOutput.{refusal-reads}
 use Rattle.strikes.proofs.dump_refused.Statement.{statement}
 use Rattle.strikes.proofs.dump_refused.Tie as tie
 

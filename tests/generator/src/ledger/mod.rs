@@ -7,8 +7,8 @@
 //! - **Equal part.** A party within its equal part is never turned away (`modest`).
 //! - **Entries** are counted here, draw by draw, and compared with what the machine says.
 //!
-//! The ledger keeps no floor, no newest stamps and no slots: Late and Ahead, and the order within
-//! a dump, are left to the comparison of two machines.
+//! The ledger keeps no floor, no stamps and no slots: Late and Ahead, the order within a dump, and
+//! the stamps of a view are left to the comparison of two machines.
 
 mod shares;
 mod table;
@@ -263,6 +263,12 @@ impl Ledger {
                 Answer::Numbers(vec![self.shares.held(who.listed().expect("not refused"))])
             }
             Look::Class { class } => self.shares.class(*class as usize),
+            Look::ViewDeliverer { who, .. } => {
+                Answer::Viewed(self.shares.view(who.listed().expect("not refused")))
+            }
+            Look::ViewRegister { register, .. } => {
+                return table(*register).viewed(answer).map(|()| Noted::default());
+            }
             // No floor is kept here.
             _ => return Ok(Noted::default()),
         };

@@ -224,6 +224,15 @@ impl Shares {
         self.classes[who.class()].entries(who)
     }
 
+    /// A deliverer's seconds and counts, rising, and its entries.
+    pub fn view(&self, who: Who) -> Vec<u64> {
+        let pairs = self.classes[who.class()].places.get(&who).into_iter();
+        let words = pairs
+            .flatten()
+            .flat_map(|(second, count)| [*second, *count]);
+        words.chain([self.held(who)]).collect()
+    }
+
     /// A class's entries, holders, units and `expired`.
     pub fn class(&self, class: usize) -> Answer {
         let class = &self.classes[class];

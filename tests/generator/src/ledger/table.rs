@@ -116,6 +116,27 @@ impl Table {
         }
     }
 
+    /// Whether a view lists, position by position, each bucket held here and the number in it, with stamps in their order.
+    pub fn viewed(&self, answer: &Answer) -> Result<(), String> {
+        let Answer::Viewed(words) = answer else {
+            return Err("a view answers words".into());
+        };
+        let (told, rest) = words.as_chunks::<4>();
+        let held = self.rings.iter().flat_map(BTreeMap::values);
+        let held: Vec<_> = held
+            .map(|held| (held.bucket, held.fingerprints.len() as u64))
+            .collect();
+        let same = told
+            .iter()
+            .map(|[bucket, _, _, number]| (*bucket, *number))
+            .eq(held.iter().copied());
+        let ordered = told.iter().all(|[_, oldest, newest, _]| oldest <= newest);
+        match same && ordered && rest.is_empty() {
+            true => Ok(()),
+            false => Err(format!("held is {held:?}")),
+        }
+    }
+
     /// Whether a dump lists, position by position, what is held here, and nothing after it.
     pub fn dumped(&self, answer: &Answer) -> Result<(), String> {
         let Answer::Bytes(bytes) = answer else {

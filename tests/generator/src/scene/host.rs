@@ -1,6 +1,6 @@
 //! The host's calls beside tickets and dumps.
 
-use calls::{Call, Look};
+use calls::{Call, Length, Look};
 
 use super::Scene;
 use crate::unfit;
@@ -52,6 +52,36 @@ impl Scene {
                 class: self.random.below(3),
             },
         })
+    }
+
+    /// Now and then of a register that is not there, or of a deliverer that is not listed.
+    pub(super) fn view(&mut self) -> Call {
+        let (length, fit) = (self.view_length(), self.random.percent(95));
+        if self.random.percent(50) {
+            let register = match fit {
+                true => self.register(),
+                false => unfit::register(&self.settings, &mut self.random),
+            };
+            return Call::Look(Look::ViewRegister { register, length });
+        }
+        let who = match fit {
+            true => self.who(),
+            false => unfit::who(&mut self.random),
+        };
+        Call::Look(Look::ViewDeliverer { who, length })
+    }
+
+    /// Enough, any, or about what some pairs or generations take.
+    fn view_length(&mut self) -> Length {
+        match self.random.below(8) {
+            0 => Some(self.random.pick(&[0, 1, 3_072, u64::MAX])),
+            1 | 2 => Some(2 * self.random.below(6) + self.random.below(2)),
+            3 | 4 => {
+                let about = 4 * self.random.below(8);
+                Some(self.near(about, 1))
+            }
+            _ => None,
+        }
     }
 
     pub(super) fn unfit(&mut self) -> Call {

@@ -120,8 +120,9 @@ impl Scene {
             every_field,
             look,
             unfit,
+            view,
         } = self.profile.weights;
-        let acts: [(u64, Act); 22] = [
+        let acts: [(u64, Act); 23] = [
             (take, |scene| scene.ask(Form::Take)),
             (take_batch, |scene| scene.ask(Form::TakeBatch)),
             (judge, |scene| scene.ask(Form::Judge)),
@@ -147,6 +148,7 @@ impl Scene {
             (every_field, Self::every_field),
             (look, Self::look),
             (unfit, Self::unfit),
+            (view, Self::view),
         ];
         let mut at = self
             .random

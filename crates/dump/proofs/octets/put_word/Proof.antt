@@ -1,6 +1,6 @@
 -- What is written so far, with the rest of the number from byte i on, is the whole number written.
 use Rattle.dump.proofs.Writing.{put-start, put-on, put-end}
-use Rattle.dump.specs.Bytes.{written}
+use Rattle.runs.specs.Over.{written}
 use Rattle.model.specs.Dump.{bytes-of, word-bytes}
 use native.Mathlib.Omega.{arith}
 use borrow.Author.Needs.{needs}

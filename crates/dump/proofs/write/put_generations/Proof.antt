@@ -1,6 +1,7 @@
 -- What is written so far, with the generations from word a on still to come, is all of them written.
 use Rattle.dump.proofs.Dumping.{Rest, rest-start, rest-room, rest-here, rest-on, part-fits, part-on, parts-end}
-use Rattle.dump.proofs.Writing.{Writes, writes-start}
+use Rattle.runs.proofs.Over.{writes-start}
+use Rattle.dump.proofs.Writing.{Writes}
 use Rattle.dump.specs.Parts.{parts-words}
 use borrow.Author.Needs.{needs}
 use lib.ListN.{drop}

@@ -1,6 +1,7 @@
 -- What is written so far, with the fingerprints from slot i on still to come, is all of them written.
 use Rattle.dump.proofs.Dumping.{slot-fits, slot-on, slots-end}
-use Rattle.dump.proofs.Writing.{Writes, writes-start}
+use Rattle.runs.proofs.Over.{writes-start}
+use Rattle.dump.proofs.Writing.{Writes}
 use Rattle.model.specs.Dump.{fingerprints}
 use borrow.Author.Needs.{needs}
 use lib.ListN.{length, drop}

@@ -1,6 +1,6 @@
 use lib.ListN.{length-set}
 use borrow.Author.Needs.{needs}
-use Rattle.runs.proofs.Firsts.{stored-four}
+use Rattle.runs.proofs.Firsts.{stored-five}
 use Rattle.generation.proofs.Generation.lead.Statement.{statement}
 use Rattle.generation.proofs.Generation.lead.Tie as tie
 
@@ -14,13 +14,16 @@ slice-write-part-3 : tie.Need-slice-write-part-3
 slice-write-part-3 c = simp length-set (search needs)
 
 slice-write-part-4 : tie.Need-slice-write-part-4
-slice-write-part-4 c = search needs
+slice-write-part-4 c = simp length-set (search needs)
+
+slice-write-part-5 : tie.Need-slice-write-part-5
+slice-write-part-5 c = search needs
 
 same-length : tie.Need-same-length
 same-length c = search needs
 
 returns : tie.Need-returns
-returns c = stored-four (c .args .part .now) _ _ _ _ (c .pre)
+returns c = stored-five (c .args .part .now) _ _ _ _ _ (c .pre)
 
 pub lead-spec : {M : Type 1} → statement M
 lead-spec =
@@ -30,5 +33,6 @@ lead-spec =
     slice-write-part-2
     slice-write-part-3
     slice-write-part-4
+    slice-write-part-5
     same-length
     returns)

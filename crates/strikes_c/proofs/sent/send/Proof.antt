@@ -99,6 +99,12 @@ enum-known-answer-9 c = search needs
 four-requires : tie.Need-four-requires
 four-requires c κs = search needs
 
+enum-known-answer-10 : tie.Need-enum-known-answer-10
+enum-known-answer-10 c = search needs
+
+one-requires-8 : tie.Need-one-requires-8
+one-requires-8 c κs = search needs
+
 returns : tie.Need-returns
 unfolding answer-number answer-values
 returns c = as-sent (c .before .before .answer .given .1) (c .alone .ensures) (record { number = refl; values = refl; few = omega arith; rest = refl })
@@ -161,6 +167,10 @@ returns-15 : tie.Need-returns-15
 unfolding answer-number answer-values
 returns-15 c = as-sent (c .before .before .answer9 .given .1) (c .four .ensures) (record { number = refl; values = refl; few = omega arith; rest = refl })
 
+returns-16 : tie.Need-returns-16
+unfolding answer-number answer-values
+returns-16 c = as-sent (c .before .before .answer10 .given .1) (c .one8 .ensures) (record { number = refl; values = refl; few = omega arith; rest = refl })
+
 pub send-spec : {M : Type 1} → statement M
 send-spec =
     tie.close
@@ -196,6 +206,8 @@ send-spec =
     one-requires-7
     enum-known-answer-9
     four-requires
+    enum-known-answer-10
+    one-requires-8
     returns
     returns-2
     returns-3
@@ -210,4 +222,5 @@ send-spec =
     returns-12
     returns-13
     returns-14
-    returns-15)
+    returns-15
+    returns-16)
