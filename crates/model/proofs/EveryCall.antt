@@ -24,7 +24,7 @@ use Rattle.model.specs.Calls.{ask-of, proven-of, asked, after-judged, af
 use Rattle.model.specs.Calls.{deed-fits, deed-refusals, done-on, meaning, codes-fit}
 use Rattle.model.specs.Refusals.{in-order}
 use Rattle.model.specs.Once.{asks-about, takes, remakes}
-use Rattle.model.specs.ToldApart.{Verdicts}
+use Rattle.model.specs.TicketsGetVerdicts.{Verdicts}
 use Rattle.model.specs.EqualPart.{kind-stays}
 use Rattle.model.specs.RoundTrip.{reaches}
 use Rattle.model.specs.Floors.{forgets}

@@ -19,7 +19,7 @@ use Rattle.model.specs.Codes.{went-through}
 use Rattle.model.specs.Calls.{Asks, Takes, Restores, Resumes, Plain, Kind, Opens, OnOne, Sets, Other, opens, beyond, Meaning, no-register, register-at, opened}
 use Rattle.model.specs.Refusals.{in-order, own-order}
 use Rattle.model.specs.Once.{Strike, asks-about, takes, remakes}
-use Rattle.model.specs.ToldApart.{Verdicts}
+use Rattle.model.specs.TicketsGetVerdicts.{Verdicts}
 use Rattle.model.specs.EqualPart.{kind-stays}
 use Rattle.model.specs.RoundTrip.{reaches}
 use Rattle.model.specs.Misreadings.{NoLower}

@@ -6,9 +6,10 @@ use mathlib.Core.List.{List, [], _∷_, map}
 use lib.ListN.{replicate}
 use Rattle.runs.specs.Chunks.{flat}
 use Rattle.model.specs.declared.Class.the-variants.{Feeders}
-use Rattle.model.specs.declared.Verdict.the-variants.{New, Late, Ahead, Unjudged}
+use Rattle.model.specs.declared.Verdict.the-variants.{New, Duplicate, Late, Ahead, Full, Unjudged}
 use Rattle.model.specs.declared.Answer.the-variants.{Refused, Done, Said, Yes, No, Begun, Already, Whole, Partly, NoFloor, FloorAt, Entries, Totals}
 use Rattle.model.specs.Settings.{settings-of, usable-at}
+use Rattle.model.specs.Codes.{verdict-number, answer-number}
 use Rattle.model.specs.Book.{second-of}
 use Rattle.model.specs.Dump.{Dumped, Restoring, word-bytes, hold-all, restore-class}
 use Rattle.model.specs.Calls.{Manner, judged, judged-batch, taken, taken-batch, Ticket, ContainsHash, Begin, Sweep, DumpTo, Resume, Floor, Pending, SweptBucket}
@@ -145,3 +146,15 @@ pub expired-at-120 : answers-from paper-settings before
     ≡ Done ∷ Said New ∷ Said New ∷ Said New ∷ Totals 3 2 5 0 ∷ Done ∷ Done ∷ Entries 1 ∷ Entries 0 ∷ Totals 1 1 2 120 ∷ []
 unfolding compute-all served answers-from
 expired-at-120 = refl
+
+-- ---- what is returned: 0 where a take answers New, where it answers Duplicate and where the floor is asked; a refusal's number otherwise
+abbrev returned : List Call → List ℕ
+returned calls = map answer-number (answers-from paper-settings before calls)
+
+pub numbers-returned : returned (open-ample ∷ take-it 7 100_000 ∷ take-it 7 100_000 ∷ On 0 Floor ∷ On 9 Floor ∷ ClassTotals 3 ∷ []) ≡ 0 ∷ 0 ∷ 0 ∷ 0 ∷ 4 ∷ 1 ∷ []
+unfolding compute-all served answers-from answer-number
+numbers-returned = refl
+
+pub verdicts-numbered : map verdict-number (New ∷ Duplicate ∷ Late ∷ Ahead ∷ Full ∷ Unjudged ∷ []) ≡ 0 ∷ 1 ∷ 2 ∷ 3 ∷ 4 ∷ 5 ∷ []
+unfolding verdict-number
+verdicts-numbered = refl

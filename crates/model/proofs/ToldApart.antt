@@ -1,4 +1,4 @@
--- The numbers that a call gives out tell its answer (specs/ToldApart). Assumes nothing.
+-- The numbers that a call gives out tell its answer (specs/ZeroIsThrough, VerdictsApart, TicketsGetVerdicts). Assumes nothing.
 use Prim.Native.Nat.{ℕ}
 use mathlib.Core.Path.{_≡_, refl, ap, sym, _∙_, subst}
 use mathlib.Core.Bool.{true, cond}
@@ -12,7 +12,9 @@ use Rattle.runs.proofs.Cases.{by-test, no}
 use Rattle.model.specs.Settings.{settings-of}
 use Rattle.model.specs.Codes.{verdict-number, answer-number, went-through}
 use Rattle.model.specs.Calls.{step, kind, held-in, refused, reply}
-use Rattle.model.specs.ToldApart.{VerdictsApart, ZeroIsThrough, Verdicts, TicketsGetVerdicts}
+use Rattle.model.specs.ZeroIsThrough.{ZeroIsThrough}
+use Rattle.model.specs.VerdictsApart.{VerdictsApart}
+use Rattle.model.specs.TicketsGetVerdicts.{Verdicts, TicketsGetVerdicts}
 use Rattle.model.proofs.EveryCall.{lawful}
 use Rattle.model.proofs.Refusals.{step-through}
 use Rattle.model.proofs.Simulates.{reply-is, through-zero}

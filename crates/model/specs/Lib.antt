@@ -43,4 +43,6 @@ pub mod FailureRaises
 pub mod BringsBack
 pub mod SameAnswers
 pub mod WorkedOnWords
-pub mod ToldApart
+pub mod ZeroIsThrough
+pub mod VerdictsApart
+pub mod TicketsGetVerdicts
