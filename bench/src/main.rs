@@ -1,5 +1,6 @@
 //! Speed, in one run and on the same tickets: each call of the register against the Rust's, its soundness test against a plain read of
-//! the words and against the same test in Rust, and a restore of the longest dump.
+//! the words and against the same test in Rust, and a restore of the longest dump, where it is held
+//! already and where it is not.
 //!
 //!     bench [RUNS [PICTURE]]
 //!

@@ -334,7 +334,12 @@ fn pairs(size: &Size, fill: Fill, dump: Option<&[u8]>, runs: usize) -> Vec<Compa
         },
     ));
     if let Some(dump) = dump.filter(|_| fill == Fill::Full) {
-        all.push(restored(size, dump, runs));
+        let (fresh, held) = (
+            "restore of the longest dump",
+            "restore of the longest dump, held already",
+        );
+        all.push(restored(fresh, size, None, dump, runs));
+        all.push(restored(held, size, Some(dump), dump, runs));
     }
     all
 }
@@ -435,11 +440,17 @@ fn taken(
     least_of(name, runs, stretches, &mut stretch)
 }
 
-/// The longest dump into a register that is empty.
-fn restored(size: &Size, dump: &[u8], runs: usize) -> Compared {
+/// The longest dump into registers that hold nothing, or what another dump brought.
+fn restored(
+    name: &'static str,
+    size: &Size,
+    held: Option<&[u8]>,
+    dump: &[u8],
+    runs: usize,
+) -> Compared {
     let settings = size.settings();
-    let fresh = both::ours(&settings, None);
-    let mut register = both::ours(&settings, None);
+    let fresh = both::ours(&settings, held);
+    let mut register = both::ours(&settings, held);
     let mut once = || {
         register.words.copy_from_slice(&fresh.words);
         let floor = nanoseconds(1, || look(&register));
@@ -452,13 +463,13 @@ fn restored(size: &Size, dump: &[u8], runs: usize) -> Compared {
             ))
             .expect("a whole dump");
         });
-        let mut book = both::rust(&settings, None);
+        let mut book = both::rust(&settings, held);
         let rust = nanoseconds(1, || {
             black_box(book.restore(0, dump));
         });
         [ours, floor, rust, floor + rust]
     };
-    least_of("restore of the longest dump", runs, FEW_TIMES, &mut once)
+    least_of(name, runs, FEW_TIMES, &mut once)
 }
 
 /// In each run the least of so many times of the register's, of `floor`, of the Rust's and of both.

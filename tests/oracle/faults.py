@@ -24,6 +24,15 @@ FAULTS = {
         ("for held in old.into_iter().filter(|held| *held != 0) {",
          "for held in old.into_iter().filter(|held| *held != 0).skip(1) {"),
     ],
+    # Room is looked for as if a held fingerprint wanted a slot of its own.
+    "held-asks-for-room": [
+        ("generation.slots_for(generation.len + usize::from(!generation.contains(fp)))",
+         "generation.slots_for(generation.len + usize::from(fp != 0))"),
+    ],
+    # A held fingerprint that is inserted again doubles the slots.
+    "held-doubles-slots": [
+        ("self.slots_for(self.len + usize::from(!self.contains(fp)))", "self.slots_for(self.len + 1)"),
+    ],
     "restore-keeps-its-draws": [
         ("for _ in 0..taken {", "for _ in 0..taken * 0 {"),
     ],

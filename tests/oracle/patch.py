@@ -50,6 +50,44 @@ EDITS = [
         "self.newest_ms = 0;",
         "self.newest_ms = 0;\n        self.oldest_ms = 0;",
     ),
+    (
+        "growth, inserted",
+        "Slots grow for a fingerprint that is not held; the Rust grows them for any.",
+        "let wanted = self.slots_for(self.len + 1);",
+        "let wanted = self.slots_for(self.len + usize::from(!self.contains(fp)));",
+    ),
+    (
+        "growth, room",
+        "Where room is looked for, the same rule.",
+        "generation.slots_for(generation.len + 1) * std::mem::size_of::<u64>(),",
+        "generation.slots_for(generation.len + usize::from(!generation.contains(fp))) "
+        "* std::mem::size_of::<u64>(),",
+    ),
+    (
+        "room, for whom",
+        "Room is looked for without the fingerprint; now it is told, as it is held.",
+        "fn make_room(&mut self, ring: usize, expires: u64) -> Room {",
+        "fn make_room(&mut self, ring: usize, expires: u64, fp: u64) -> Room {",
+    ),
+    (
+        "room, by a hold",
+        "The first of three places that look for room.",
+        "match held.make_room(ring, expires) {",
+        "match held.make_room(ring, expires, fp.max(1)) {",
+    ),
+    (
+        "room, by a take",
+        "The second of them.",
+        "let at = match self.rings[class.index()].make_room(ring, expires) {",
+        "let asked = self.fingerprint(hash);\n"
+        "        let at = match self.rings[class.index()].make_room(ring, expires, asked) {",
+    ),
+    (
+        "room, by a restore",
+        "The third of them.",
+        "held.make_room(ring, bucket) else {",
+        "held.make_room(ring, bucket, fp.max(1)) else {",
+    ),
 ]
 
 # Appended at the end: a module that reads private fields and alters nothing.

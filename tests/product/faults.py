@@ -40,6 +40,16 @@ FAULTS = {
     "growth-forgets-one": [
         ("generation/src/slots.rt", "    let mut i = 0;\n    while i < old.len()", "    let mut i = 1;\n    while i < old.len()"),
     ],
+    # Room is looked for as if a held fingerprint wanted a slot of its own.
+    "held-asks-for-room": [
+        (GENERATION, "    let wanted = slots_for(known, part[Generation::SLOTS], part[Generation::HELD]);\n    if wanted",
+         "    let wanted = slots_for(false, part[Generation::SLOTS], part[Generation::HELD]);\n    if wanted"),
+    ],
+    # A held fingerprint that is inserted again doubles the slots.
+    "held-doubles-slots": [
+        (GENERATION, "    let wanted = slots_for(known, part[Generation::SLOTS], part[Generation::HELD]);\n    regrow",
+         "    let wanted = slots_for(false, part[Generation::SLOTS], part[Generation::HELD]);\n    regrow"),
+    ],
     "restore-keeps-its-draws": [
         ("restoring/src/holding.rt", "give_back_all(run, s, r, h, tally.draws);", "give_back_all(run, s, r, h, 0);"),
     ],

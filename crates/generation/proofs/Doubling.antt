@@ -1,14 +1,16 @@
--- The loop of slots_for: doubling goes on while there are too few slots, and its steps never run out.
+-- The loop of doubled_slots: doubling goes on while there are too few slots, and its steps never run out.
 use Prim.Native.Nat.{ℕ, zero, suc, _+_, _*_, _/_, _<_, _≤_, max}
 use native.Mathlib.Omega.{arith}
 use mathlib.Core.Path.{_≡_, refl, _∙_}
-use mathlib.Core.Bool.{Bool}
+use mathlib.Core.Bool.{Bool, true, false}
 use mathlib.Core.List.{List}
 use lib.ListN.{length}
 use lib.Dec.{leb}
 use borrow.Author.Tests.{le-leb, lt-leb, leb-true, leb-false}
-use Rattle.runs.proofs.Cases.{by-test}
+use Rattle.runs.proofs.Cases.{by-test, no}
 use Rattle.model.specs.Generation.{count, doubled, slots-for}
+use Rattle.model.proofs.Probing.{count≤}
+use Rattle.model.proofs.Growth.{held-stays, slots-law}
 use Rattle.generation.specs.Slots.{slots-after}
 
 -- steps that are enough give what more of them give
@@ -33,10 +35,26 @@ module _ (m n : ℕ) (p : 0 < n) where
   unfolding doubled
   doubled-end l = same (4 * m) 0 m n p (omega arith) (omega arith)
 
+-- the two ways of slots_for: as many as before, and doubled
+pub as-before : (known : Bool) (slots held : ℕ) → known ≡ true → slots ≡ slots-after known slots held
+unfolding slots-after
+as-before true slots held e = refl
+as-before false slots held e = no (cc)
+
+pub as-doubled : (known : Bool) (slots held wanted : ℕ) → known ≡ false → wanted ≡ slots-after false slots held → wanted ≡ slots-after known slots held
+as-doubled true slots held wanted e w = no (cc)
+as-doubled false slots held wanted e w = w
+
 -- by the numbers that lead a generation, and by its slots
 pub slots-are : (known : Bool) (s : List ℕ) → slots-for known s ≡ slots-after known (length s) (count s)
 unfolding slots-for slots-after
-slots-are known s = refl
+slots-are true s = refl
+slots-are false s = refl
+
+-- there are slots for all that is held
+pub slots-hold : (known : Bool) (s : List ℕ) → count s ≤ slots-for known s
+slots-hold true s = rw (held-stays s) (count≤ s)
+slots-hold false s = let enough = slots-law s .enough in omega arith
 
 -- slots are never fewer after it
 doubled-more : (f m n : ℕ) → n ≤ doubled f m n
@@ -47,7 +65,8 @@ doubled-more (suc f) m n =
 
 pub slots-more : (known : Bool) (slots held : ℕ) → slots ≤ slots-after known slots held
 unfolding slots-after
-slots-more known slots held = let k = doubled-more (4 * suc held) (suc held) (max slots 1) in omega arith
+slots-more true slots held = omega arith
+slots-more false slots held = let k = doubled-more (4 * suc held) (suc held) (max slots 1) in omega arith
 
 -- three quarters without a product of what may be any number
 pub three-quarters : (held slots : ℕ) → leb held (3 * slots / 4) ≡ leb (4 * held) (3 * slots)

@@ -15,13 +15,13 @@ use Rattle.runs.specs.Turns.{silent}
 use Rattle.model.specs.Widths.{generation-head, generation-width}
 use Rattle.model.specs.Generation.{count, among, put, grown, slots-for, oldest-with, insert}
 use Rattle.model.proofs.Probing.{put-length}
-use Rattle.model.proofs.Growth.{slots-law, grown-length, grown-count, ok-found}
+use Rattle.model.proofs.Growth.{grown-length, grown-count, ok-found}
 use Rattle.model.proofs.GenerationWords.{generation-wide, live-pad}
 use Rattle.generation.specs.declared.Generation.{Generation as Leading}
 use Rattle.generation.specs.Slots.{slots-after, Puts}
 use Rattle.generation.specs.Rules.{with-slots-for, entered}
 use Rattle.generation.specs.Words.{Bounded, Roomy, Leads, led-by, GenerationReads, GenerationTurns, FittingTurns}
-use Rattle.generation.proofs.Doubling.{slots-are, slots-more}
+use Rattle.generation.proofs.Doubling.{slots-are, slots-hold, slots-more}
 use Rattle.generation.proofs.Looking.{lent-slots, with-lent, slots-part}
 
 -- a run's slots, some of them replaced by as many or more
@@ -89,7 +89,7 @@ module _ (ws : List ℕ) (known : Bool) (bounds : Bounded ws) (roomy : Roomy kno
           let s = g .slots in
           let fits = ok .fits in
           let f = ok-found S n i g ok in
-          let enough = slots-law known s .enough in
+          let enough = slots-hold known s in
           let v : slots-for known s ≡ wanted = slots-are known s ∙ sym (rw is at w) in
           let more = slots-more known (length s) (count s) in
           let a = slots-are known s in
@@ -117,7 +117,7 @@ inserts ws mid last known b fp stamp reads roomy one two S n i = record {
       let r = roomy .room in
       let a : slots-for known s ≡ slots-after known (getD ws 0 0) (getD ws 1 0) = slots-are known s ∙ rw is in
       let l = grown-length (slots-for known s) s in
-      let enough = slots-law known s .enough in
+      let enough = slots-hold known s in
       let same : count (grown (slots-for known s) s) ≡ count s = grown-count (slots-for known s) s (ok-found S n i g ok) (omega arith) in
       let m : length ws ≡ generation-width S = rw is (generation-wide S g) in
       (rw (← same, ← k) (two S .does (with-slots-for known g) (omega arith) (one S n i .does g ok is .0) .0), refl);

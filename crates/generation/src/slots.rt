@@ -3,6 +3,7 @@ use crate::Generation;
 use model::Probe;
 use numbers::capped;
 ghost use mathlib.Core.Path.{_≡_};
+ghost use mathlib.Core.Bool.{false};
 ghost use mathlib.Core.List.{_++_};
 ghost use Prim.Native.Nat.{_+_, _-_, _*_, _%_, _≤_, _<_};
 ghost use lib.ListN.{length, take, drop, replicate};
@@ -170,11 +171,11 @@ pub fn regrow(slots: &mut [u64], n: usize, wanted: usize)
     rebuild_most(slots, n, wanted);
 }
 
-// The slots that there are once a fingerprint is inserted: doubled from the present number until those held and it are at most
-// three quarters. `known`: it is held already, which changes nothing today.
-pub fn slots_for(known: bool, slots: u64, held: u64) -> u64
+// The slots that there are once a new fingerprint is inserted: doubled from the present number until those held and it are at most
+// three quarters.
+fn doubled_slots(slots: u64, held: u64) -> u64
     requires { ⌜ (slots ≤ 1024) × (held ≤ 1024) ⌝ }
-    ensures { λ r. ⌜ r ≡ slots-after known slots held ⌝ }
+    ensures { λ r. ⌜ r ≡ slots-after false slots held ⌝ }
 {
     let most = 4 * (held + 1);
     let mut n = capped::larger(slots, Generation::LEAST);
@@ -182,4 +183,15 @@ pub fn slots_for(known: bool, slots: u64, held: u64) -> u64
         n = 2 * n;
     }
     n
+}
+
+// The slots that there are once a fingerprint is inserted. `known`: it is held already, and there are as many as before.
+pub fn slots_for(known: bool, slots: u64, held: u64) -> u64
+    requires { ⌜ (slots ≤ 1024) × (held ≤ 1024) ⌝ }
+    ensures { λ r. ⌜ r ≡ slots-after known slots held ⌝ }
+{
+    if known {
+        return slots;
+    }
+    doubled_slots(slots, held)
 }

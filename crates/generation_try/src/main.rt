@@ -1,6 +1,7 @@
 // A generation of at most 8 slots at position 0 of a ring of 24: fingerprints are inserted, words printed after each, one is
 // dropped, and damaged words are refused. What is printed is the worked case of holding 1, 2, 3, 4, 6 and a seventh, with
-// fingerprints that start at the same slot. Then 128 slots of which 95 are held, by fingerprints that all start at one slot.
+// fingerprints that start at the same slot. Two of them are inserted again: at 3 of 4 slots the slots stay 4, and at 6 of 8 there
+// is room, unlike for a seventh. Then 128 slots of which 95 are held, by fingerprints that all start at one slot.
 use generation::Dropped;
 use model::Bucket;
 use model::Room;
@@ -137,6 +138,8 @@ fn main() {
     says = strike(&mut part, Bucket(120), 31, 105);
     show(says, &part);
     says = strike(&mut part, Bucket(120), 1, 105);
+    show(says, &part);
+    says = strike(&mut part, Bucket(120), 31, 130);
     show(says, &part);
     says = sweep(&mut part, Bucket(120));
     show(says, &part);

@@ -22,7 +22,7 @@ use Rattle.model.proofs.RoundTrip.{wrote, vetted-seen, round-trip}
 seen-holding : (st ws : List ℕ) → Vetted st ws → view ws ≡ some (holding ws)
 seen-holding st ws v = let e = vetted-seen st ws v in e ∙ ap some (sym (view-read ws _ e .holds))
 
-holding-is : (st ws : List ℕ) → Vetted st ws → held-in (settings-of st) ws ≡ holding ws
+pub holding-is : (st ws : List ℕ) → Vetted st ws → held-in (settings-of st) ws ≡ holding ws
 holding-is st ws v = sym (view-read ws _ (vetted-seen st ws v) .holds)
 
 -- ---- the round trip's end is the promise's, where the words that were dumped were sound

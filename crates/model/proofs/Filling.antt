@@ -11,8 +11,8 @@ use borrow.Author.Tests.{eqb-true, eqb-false, leb-true, leb-false, ne-eqb}
 use Rattle.runs.proofs.Cases.{by-test, split-if}
 use Rattle.model.specs.Generation.{Generation, empty, count, among, as-read, slots-for, insert}
 use Rattle.model.specs.Dump.{Dumped, fingerprints}
-use Rattle.model.proofs.Probing.{Found}
-use Rattle.model.proofs.Growth.{Doubled, slots-law, inserted}
+use Rattle.model.proofs.Probing.{Found, count≤}
+use Rattle.model.proofs.Growth.{Doubled, slots-law, held-stays, inserted, among-count}
 use Rattle.model.proofs.Holding.{inserted-one}
 
 -- ---- fingerprints by slot: none is 0, and they are those that the slots hold
@@ -56,15 +56,24 @@ pub record Power (n : ℕ) : Type 0 where
   pub exponent : ℕ
   pub is : n ≡ 2 ^ exponent
 
-pub slots-within : (known : Bool) (s : List ℕ) (most : ℕ) → Power (max (length s) 1) → Power most → max (length s) 1 ≤ most → 4 * suc (count s) ≤ 3 * most
-    → (slots-for known s ≤ most) × Power (slots-for known s)
-slots-within known s most p q low enough =
-    let d = slots-law known s in
-    let e : Doubled (suc (count s)) (2 ^ (p .exponent)) (slots-for known s) = subst (λ (n : ℕ). Doubled (suc (count s)) n (slots-for known s)) (p .is) d in
+-- a fingerprint that is held leaves as many slots as there are, and there are some
+pub slots-within : (known : Bool) (s : List ℕ) (most : ℕ) → (known ≡ true → 1 ≤ length s) → Power (max (length s) 1) → Power most → max (length s) 1 ≤ most
+    → 4 * suc (count s) ≤ 3 * most → (slots-for known s ≤ most) × Power (slots-for known s)
+slots-within true s most some p q low enough =
+    let l = some refl in
+    let e : max (length s) 1 ≡ length s = omega (arith, l) in
+    rw (held-stays s) (omega (arith, low), subst Power e p)
+slots-within false s most some p q low enough =
+    let d = slots-law s in
+    let e : Doubled (suc (count s)) (2 ^ (p .exponent)) (slots-for false s) = subst (λ (n : ℕ). Doubled (suc (count s)) n (slots-for false s)) (p .is) d in
     let x = q .is in
     let y = p .is in
-    let w = doubled-within (suc (count s)) (p .exponent) (q .exponent) (slots-for known s) e (omega arith) (omega arith) in
+    let w = doubled-within (suc (count s)) (p .exponent) (q .exponent) (slots-for false s) e (omega arith) (omega arith) in
     ((omega arith), record { exponent = e .times + p .exponent; is = e .is ∙ sym (pow-add 2 (e .times) (p .exponent)) })
+
+slots-some : (known : Bool) (s : List ℕ) → (known ≡ true → 1 ≤ length s) → 1 ≤ slots-for known s
+slots-some true s some = let l = some refl in rw (held-stays s) l
+slots-some false s some = let d = slots-law s .enough in omega arith
 
 -- ---- filling: what is in the generation with what is still to come makes all
 pub record Filling (most : ℕ) (d : Dumped) (all rest : List ℕ) (g : Generation) : Type 0 where
@@ -94,7 +103,7 @@ or-moved true true c = refl
 or-moved true false c = refl
 or-moved false b c = refl
 
-read-as : (fp : ℕ) → 0 < fp → as-read fp ≡ fp
+pub read-as : (fp : ℕ) → 0 < fp → as-read fp ≡ fp
 unfolding as-read
 read-as fp h = omega arith
 
@@ -107,8 +116,11 @@ unfolding insert
 one-newest d fp g = refl
 
 module _ (most : ℕ) (d : Dumped) (all rest : List ℕ) (fp : ℕ) (g : Generation) (p : Power most) (h : 0 < fp) (f : Filling most d all (fp ∷ rest) g) where
+  some-slots : among (as-read fp) (g .slots) ≡ true → 1 ≤ length (g .slots)
+  some-slots t = let e = read-as fp h in let c = among-count (as-read fp) (g .slots) (omega (arith, e, h)) t in let m = count≤ (g .slots) in omega (arith, c, m)
+
   fit : (slots-for (among (as-read fp) (g .slots)) (g .slots) ≤ most) × Power (slots-for (among (as-read fp) (g .slots)) (g .slots))
-  fit = slots-within (among (as-read fp) (g .slots)) (g .slots) most (f .power) p (f .short) (let k = f .few in omega arith)
+  fit = slots-within (among (as-read fp) (g .slots)) (g .slots) most some-slots (f .power) p (f .short) (let k = f .few in omega arith)
 
   -- there are slots for the next
   pub slots-fit : slots-for (among (as-read fp) (g .slots)) (g .slots) ≤ most
@@ -124,7 +136,7 @@ module _ (most : ℕ) (d : Dumped) (all rest : List ℕ) (fp : ℕ) (g : Generat
       let more : count (inserted-one d fp g .slots) ≤ suc (count s) =
       rw (i .counted) (split-if (λ (n : ℕ). n ≤ suc (count s)) (among (as-read fp) s) (λ q. omega arith) (λ q. omega arith)) in
       let long : max (length (inserted-one d fp g .slots)) 1 ≡ slots-for (among (as-read fp) s) s =
-      (let l = i .slots in let q = slots-law (among (as-read fp) s) s .enough in omega arith) in
+      (let l = i .slots in let q = slots-some (among (as-read fp) s) s some-slots in omega (arith, l, q)) in
       record {
         bucket = λ q. one-bucket d fp g;
         found = i .found;

@@ -3,7 +3,7 @@
 use Prim.Native.Nat.{ℕ, zero, suc, _+_, _*_, _%_, _^_, _<_, _≤_, max}
 use native.Mathlib.Omega.{arith}
 use native.Mathlib.Nat.{pow-suc, pow-le-pow-right, mul-assoc}
-use mathlib.Core.Path.{_≡_, refl, sym, _∙_}
+use mathlib.Core.Path.{_≡_, refl, sym, _∙_, subst}
 use mathlib.Core.Bool.{Bool, true, false, cond, _||_, or-true}
 use mathlib.Core.List.{List, [], _∷_}
 use lib.ListN.{length, getD, replicate, length-replicate}
@@ -12,11 +12,12 @@ use lib.Pow.{pow-add}
 use borrow.Author.Tests.{eq-eqb, ne-eqb, eqb-true, eqb-false, leb-true, leb-false, le-leb}
 use Rattle.runs.proofs.Cases.{by-test, no, each-true}
 use Rattle.runs.proofs.Words.{all-same}
-use Rattle.model.specs.declared.Probe.the-variants.{Held}
+use Rattle.model.specs.declared.Probe.{Probe}
+use Rattle.model.specs.declared.Probe.the-variants.{Held, Free, Nowhere}
 use Rattle.model.specs.Settings.{power-of-two}
-use Rattle.model.specs.Generation.{Generation, empty, count, among, put, doubled, slots-for, refill, grown, insert, oldest-with, dropped}
+use Rattle.model.specs.Generation.{Generation, empty, count, among, probe, put-at, put, doubled, slots-for, refill, grown, insert, oldest-with, dropped}
 use Rattle.model.specs.GenerationWords.{reached-from, filled-sound, GenerationOk}
-use Rattle.model.proofs.Probing.{Found, found-all, all-found, index, put-length, put-found, put-among, put-count, count-held, count≤}
+use Rattle.model.proofs.Probing.{Found, found, probe-finds, found-all, all-found, index, put-length, put-found, put-among, put-count, count-held, count≤}
 
 -- ---- how many slots: the present number doubled, often enough that n fingerprints are at most three quarters, and not oftener
 pub record Doubled (n present wanted : ℕ) : Type 0 where
@@ -48,9 +49,14 @@ doubled-law (suc steps) n present h r =
     least-on n present k times more zero l = omega arith
     least-on n present k times more (suc t) l = more t (omega arith)
 
-pub slots-law : (known : Bool) (s : List ℕ) → Doubled (suc (count s)) (max (length s) 1) (slots-for known s)
+-- for a fingerprint that is held there are as many as before, and for a new one they double
+pub held-stays : (s : List ℕ) → slots-for true s ≡ length s
 unfolding slots-for
-slots-law known s = doubled-law (4 * suc (count s)) (suc (count s)) (max (length s) 1) (omega arith) (omega arith)
+held-stays s = refl
+
+pub slots-law : (s : List ℕ) → Doubled (suc (count s)) (max (length s) 1) (slots-for false s)
+unfolding slots-for
+slots-law s = doubled-law (4 * suc (count s)) (suc (count s)) (max (length s) 1) (omega arith) (omega arith)
 
 -- ---- powers of two: the table of the settings, by its exponents
 power-row : ℕ → ℕ → ℕ → Bool
@@ -92,12 +98,11 @@ power-has k l h =
     many g = let b : 2 ^ 11 ≤ 2 ^ k = pow-le-pow-right (omega arith) g in omega arith
 
 -- a number of slots, 0 or a power of two, is a power of two again after the doubling, while it is within the table
-pub slots-power : (known : Bool) (s : List ℕ) (k : ℕ) → max (length s) 1 ≡ 2 ^ k → slots-for known s ≤ 1_024
-    → power-of-two (slots-for known s) ≡ true
-slots-power known s k p h =
-    let d = slots-law known s in
+pub slots-power : (s : List ℕ) (k : ℕ) → max (length s) 1 ≡ 2 ^ k → slots-for false s ≤ 1_024 → power-of-two (slots-for false s) ≡ true
+slots-power s k p h =
+    let d = slots-law s in
     let few = d .enough in
-    let e : slots-for known s ≡ 2 ^ (d .times + k) = d .is ∙ rw p (sym (pow-add 2 (d .times) k)) in
+    let e : slots-for false s ≡ 2 ^ (d .times + k) = d .is ∙ rw p (sym (pow-add 2 (d .times) k)) in
     rw e (power-has (d .times + k) (rw (← e) (omega arith)) (rw (← e) h))
 
 -- ---- distinct slots: no fingerprint lies at two places
@@ -242,30 +247,48 @@ pub record Inserted (s : List ℕ) (fp : ℕ) (after : List ℕ) : Type 0 where
   pub found : Found after
   pub holds : (y : ℕ) → 0 < y → among y after ≡ (eqb y fp || among y s)
   pub counted : count after ≡ cond (among fp s) (count s) (suc (count s))
-  pub three-quarters : 4 * count after ≤ 3 * length after
+
+-- a fingerprint that is held already: nothing changes
+held-put : (s : List ℕ) (fp : ℕ) (r : Probe) → found r ≡ true → put-at r s fp ≡ s
+held-put s fp (Held i) e = refl
+held-put s fp (Free i) e = no (cc)
+held-put s fp Nowhere e = no (cc)
+
+pub held-kept : (s : List ℕ) (fp : ℕ) → 0 < fp → Found s → among fp s ≡ true → put (grown (slots-for (among fp s) s) s) fp ≡ s
+unfolding put grown
+held-kept s fp p f t =
+    rw (t, held-stays s, eq-eqb (length s) (length s) refl) (held-put s fp (probe s fp) (probe-finds s fp f p ∙ t))
+
+held-inserted : (s : List ℕ) (fp : ℕ) → Found s → among fp s ≡ true → Inserted s fp s
+held-inserted s fp f t = record {
+  slots = rw (t, held-stays s);
+  found = f;
+  holds = λ y q. by-test (eqb y fp) (λ e. rw e (rw (eqb-true y fp e) t)) (λ e. rw e);
+  counted = rw t;
+}
 
 pub inserted : (b fp stamp : ℕ) (g : Generation) → 0 < fp → Found (g .slots) → Inserted (g .slots) fp (insert b fp stamp g .slots)
 unfolding insert
 inserted b fp stamp g p f =
-    let s = g .slots in
-    let wanted = slots-for (among fp s) s in
-    let enough = slots-law (among fp s) s .enough in
-    let fit : count s ≤ wanted = omega arith in
-    let l = grown-length wanted s in
-    let c = grown-count wanted s f fit in
-    let room : count (grown wanted s) < length (grown wanted s) = omega arith in
-    let held = grown-among wanted s f fit in
-    let counted : count (put (grown wanted s) fp) ≡ cond (among fp s) (count s) (suc (count s)) =
-    put-count (grown wanted s) fp p room (grown-found wanted s f) ∙ rw (c, held fp p) in
-    let more : cond (among fp s) (count s) (suc (count s)) ≤ suc (count s) = by-test (among fp s) (λ e. rw e (omega arith)) (λ e. rw e (omega arith)) in
-    let long = put-length (grown wanted s) fp in
-    record {
-      slots = long ∙ l;
-      found = put-found (grown wanted s) fp p (grown-found wanted s f);
-      holds = λ y q. put-among (grown wanted s) fp p y q room ∙ rw (held y q);
-      counted = counted;
-      three-quarters = omega arith;
-    }
+    by-test (among fp (g .slots))
+    (λ t. subst (λ (l : List ℕ). Inserted (g .slots) fp l) (sym (held-kept (g .slots) fp p f t)) (held-inserted (g .slots) fp f t))
+    (λ t. new-inserted (g .slots) fp p f t)
+  where
+    new-inserted : (s : List ℕ) (fp : ℕ) → 0 < fp → Found s → among fp s ≡ false → Inserted s fp (put (grown (slots-for (among fp s) s) s) fp)
+    new-inserted s fp p f t =
+        let wanted = slots-for (among fp s) s in
+        let enough : 4 * suc (count s) ≤ 3 * wanted = rw t (slots-law s .enough) in
+        let fit : count s ≤ wanted = omega arith in
+        let l = grown-length wanted s in
+        let c = grown-count wanted s f fit in
+        let room : count (grown wanted s) < length (grown wanted s) = omega arith in
+        let held = grown-among wanted s f fit in
+        record {
+          slots = put-length (grown wanted s) fp ∙ l;
+          found = put-found (grown wanted s) fp p (grown-found wanted s f);
+          holds = λ y q. put-among (grown wanted s) fp p y q room ∙ rw (held y q);
+          counted = put-count (grown wanted s) fp p room (grown-found wanted s f) ∙ rw (c, held fp p);
+        }
 
 -- ---- well-formed generations: an empty one, one that is dropped, and one that a fingerprint is inserted into
 pub empty-ok : (S n i : ℕ) → GenerationOk S n i empty
@@ -315,6 +338,25 @@ module _ (S n i : ℕ) (g : Generation) (ok : GenerationOk S n i g) where
   oldest-kept : (stamp : ℕ) → oldest-with stamp g ≤ max (g .newest) stamp
   oldest-kept stamp = let a = ok .aged in by-test (eqb (count (g .slots)) 0) (λ e. rw e (omega arith)) (λ e. rw e (omega arith))
 
+  -- after it the slots are a power of two and at most three quarters are held: as before where the fingerprint was held, and by the
+  -- doubling where it is new
+  filled-well : (fp : ℕ) → 0 < fp → slots-for (among fp (g .slots)) (g .slots) ≤ 1_024 → (after : List ℕ) → Inserted (g .slots) fp after
+      → (power-of-two (length after) ≡ true) × (4 * count after ≤ 3 * length after)
+  filled-well fp p small after ins =
+      let s = g .slots in
+      let l = ins .slots in
+      let c = ins .counted in
+      by-test (among fp s)
+      (λ t. let e : length after ≡ length s = l ∙ rw (t, held-stays s) in
+      let k : count after ≡ count s = c ∙ rw t in
+      let some = among-count fp s p t in
+      ok-ways (λ n z. absurd (let d : 1 ≤ count [] = rw n at some in omega (arith, d, count≤ [])))
+      (λ q a few d r. (rw e q, omega (arith, e, k, few))))
+      (λ t. let w : length after ≡ slots-for false s = l ∙ rw t in
+      let k : count after ≡ suc (count s) = c ∙ rw t in
+      let enough = slots-law s .enough in
+      (rw w (slots-power s (ok-power .0) (ok-power .1) (omega (arith, w, l, small))), omega (arith, w, k, enough)))
+
   -- whatever was at the position: the new fingerprint's bucket has it now
   pub insert-ok : (b fp stamp : ℕ) → S ≤ 1_024 → 0 < fp → slots-for (among fp (g .slots)) (g .slots) ≤ S
       → GenerationOk S n (b % n) (insert b fp stamp g)
@@ -323,16 +365,15 @@ module _ (S n i : ℕ) (g : Generation) (ok : GenerationOk S n i g) where
       let s = g .slots in
       let after = put (grown (slots-for (among fp s) s) s) fp in
       let ins = inserted b fp stamp g p ok-found in
-      let power : power-of-two (length after) ≡ true =
-      rw (ins .slots) (slots-power (among fp s) s (ok-power .0) (ok-power .1) (omega arith)) in
-      let enough = slots-law (among fp s) s .enough in
       let l = ins .slots in
       let holds : among fp after ≡ true = ins .holds fp p ∙ rw (eq-eqb fp fp refl) in
       let some : 1 ≤ count after = among-count fp after p holds in
+      let few = count≤ after in
+      let well = filled-well fp p (omega arith) after ins in
       record {
-        fits = omega arith;
+        fits = omega (arith, l, fit);
         aged = oldest-kept stamp;
         shape =
-            rw (ne-eqb (length after) 0 (λ e. omega arith), power, le-leb 1 (count after) some, le-leb (4 * count after) (3 * length after) (ins .three-quarters), eq-eqb (b % n) (b % n) refl)
+            rw (ne-eqb (length after) 0 (λ e. omega arith), well .0, le-leb 1 (count after) some, le-leb (4 * count after) (3 * length after) (well .1), eq-eqb (b % n) (b % n) refl)
             (all-found after (ins .found));
       }

@@ -58,6 +58,9 @@ pub mod Expiry
 pub mod FailureRaises
 pub mod StatementCases
 pub mod BringsBack
+pub mod SameDump
+pub mod OwnDump
+pub mod SameDumpCases
 pub mod SameAnswers
 pub mod WorkedOnWords
 pub mod ToldApart

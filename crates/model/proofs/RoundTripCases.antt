@@ -37,11 +37,11 @@ unfoldable compute-all : ℕ
 unfolding compute-words compute-rules went-through words-after seconds-in pairs-with new-units
 compute-all = 0
 
-unfoldable all-small : List ℕ → Bool
+unfoldable pub all-small : List ℕ → Bool
 all-small [] = true
 all-small (w ∷ ws) = leb w top64 && all-small ws
 
-small-words : (ws : List ℕ) → all-small ws ≡ true → Words64 ws
+pub small-words : (ws : List ℕ) → all-small ws ≡ true → Words64 ws
 unfolding all-small
 small-words [] t = tt
 small-words (w ∷ ws) t = let p = both-true (leb w top64) (all-small ws) t in (leb-true w top64 (p .0), small-words ws (p .1))

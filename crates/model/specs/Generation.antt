@@ -1,6 +1,6 @@
 -- "Judge and take", second paragraph: a generation's slots, probing, growth and insertion. A slot of 0 is empty.
 use Prim.Native.Nat.{ℕ, zero, suc, _+_, _*_, _%_, max, min}
-use mathlib.Core.Bool.{Bool, false, cond, _||_}
+use mathlib.Core.Bool.{Bool, true, false, cond, _||_}
 use mathlib.Core.List.{List, [], _∷_}
 use lib.Dec.{leb, eqb}
 use lib.ListN.{length, getD, set, replicate}
@@ -55,7 +55,7 @@ put-at Nowhere s fp = s
 unfoldable pub put : List ℕ → ℕ → List ℕ
 put s fp = put-at (probe s fp) s fp
 
--- ---- "Slots double from their present number, at least 1, while 4 × (held + 1) > 3 × slots, even if the fingerprint is already held."
+-- ---- "Slots double from their present number, at least 1, while 4 × (held + 1) > 3 × slots"
 abbrev pub LEAST : ℕ
 LEAST = 1
 
@@ -64,9 +64,11 @@ unfoldable pub doubled : ℕ → ℕ → ℕ → ℕ
 doubled zero n slots = slots
 doubled (suc steps) n slots = let more = doubled steps n (2 * slots) in cond (leb (4 * n) (3 * slots)) slots more
 
--- the slots that a generation has once a fingerprint is inserted; `known` says that it is held already, and changes nothing
+-- "Let a generation grow .. only when the fingerprint is not held" (request Q-2): the slots that there are once a fingerprint is
+-- inserted. `true` says that it is held already, and then there are as many as before
 unfoldable pub slots-for : Bool → List ℕ → ℕ
-slots-for known s = doubled (4 * suc (count s)) (suc (count s)) (max (length s) LEAST)
+slots-for true s = length s
+slots-for false s = doubled (4 * suc (count s)) (suc (count s)) (max (length s) LEAST)
 
 -- ---- "Growth re-inserts in old slot order."
 unfoldable pub refill : List ℕ → List ℕ → List ℕ

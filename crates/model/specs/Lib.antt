@@ -41,6 +41,7 @@ pub mod Seconds
 pub mod Expiry
 pub mod FailureRaises
 pub mod BringsBack
+pub mod SameDump
 pub mod SameAnswers
 pub mod WorkedOnWords
 pub mod ZeroIsThrough

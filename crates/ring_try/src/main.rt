@@ -1,5 +1,6 @@
 // A ring of three positions with at most four slots each: fingerprints are inserted, looked for, dropped and swept, and the words
-// are printed after each step. Damaged words are refused.
+// are printed after each step. Where three of four slots are held a new one finds no room, and one that is held does. Damaged words
+// are refused.
 use generation::Dropped;
 use model::Bucket;
 use model::Room;
@@ -116,6 +117,8 @@ fn main() {
     says = strike(&mut words, Bucket(6), 12, 90);
     show(says, &words);
     says = strike(&mut words, Bucket(6), 13, 90);
+    show(says, &words);
+    says = strike(&mut words, Bucket(6), 12, 80);
     show(says, &words);
     says = look(&words, Bucket(6), 7);
     show(says, &words);

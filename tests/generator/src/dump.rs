@@ -60,6 +60,16 @@ pub fn read(bytes: &[u8]) -> Option<(Dump, u64)> {
 }
 
 impl Dump {
+    /// Each fingerprint as it is held, with its class and bucket.
+    pub fn listed(&self) -> impl Iterator<Item = (usize, u64, u64)> {
+        let classes = self.classes.iter().enumerate();
+        let listed = classes.flat_map(|(class, all)| all.iter().map(move |one| (class, one)));
+        listed.flat_map(|(class, one)| {
+            let fingerprints = one.fingerprints.iter();
+            fingerprints.map(move |fingerprint| (class, one.bucket, (*fingerprint).max(1)))
+        })
+    }
+
     pub fn bytes(&self) -> Vec<u8> {
         let mut words = vec![self.floor];
         for class in &self.classes {

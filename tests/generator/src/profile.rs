@@ -63,6 +63,8 @@ pub struct Weights {
     pub restore: u64,
     /// A dump made up: buckets near the clock, repeated fingerprints, empty generations.
     pub restore_made: u64,
+    /// A register dumped, and its dump restored into it two or three times.
+    pub restore_own: u64,
     pub resume: u64,
     /// A dump cut at some length, or altered in some word.
     pub damage: u64,
@@ -96,6 +98,7 @@ impl Weights {
         dump_into: 2,
         restore: 2,
         restore_made: 2,
+        restore_own: 0,
         resume: 1,
         damage: 0,
         every_cut: 0,

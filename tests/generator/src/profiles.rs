@@ -5,7 +5,7 @@ use crate::profile::{Clock, Levels, Profile, Spans, Weights};
 const USUAL: Profile = Profile::USUAL;
 const WEIGHTS: Weights = Weights::USUAL;
 
-pub static ALL: [Profile; 14] = [
+pub static ALL: [Profile; 15] = [
     Profile {
         name: "full",
         about: "tables that are often full: slots, places, pairs and limits of a few",
@@ -302,6 +302,20 @@ pub static ALL: [Profile; 14] = [
             "partly",
             "expired",
         ],
+        ..USUAL
+    },
+    Profile {
+        name: "repeats",
+        about: "a register's own dump restored into it two and three times, tickets in between",
+        slots: &[2, 4, 8],
+        places: &[4, 8],
+        pairs: &[8, 16, 32],
+        weights: Weights {
+            restore_own: 40,
+            ..WEIGHTS
+        },
+        stretch: (40, 160),
+        meant: &["restored again", "restored full", "whole", "partly"],
         ..USUAL
     },
 ];

@@ -14,7 +14,7 @@ pub struct Tally {
 }
 
 /// Everything that is counted, in the order in which it is printed.
-pub const COUNTED: [&str; 35] = [
+pub const COUNTED: [&str; 37] = [
     "opened",
     "new",
     "duplicate",
@@ -34,6 +34,8 @@ pub const COUNTED: [&str; 35] = [
     "already",
     "whole",
     "partly",
+    "restored again",
+    "restored full",
     "dumped",
     "refused 1",
     "refused 4",
@@ -121,6 +123,8 @@ impl Tally {
         self.calls += 1;
         self.add(kind(call, answer, noted), 1);
         self.add("struck again", u64::from(noted.struck));
+        self.add("restored again", u64::from(noted.again));
+        self.add("restored full", u64::from(noted.filled));
         self.add("modest", u64::from(noted.modest));
         if let (Call::Ask { ticket, .. }, Answer::Verdict(Verdict::New)) = (call, answer) {
             match ticket.who.listed() {

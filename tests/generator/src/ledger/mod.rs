@@ -34,6 +34,10 @@ pub struct Noted {
     pub struck: bool,
     /// The equal part's promise was due.
     pub modest: bool,
+    /// A restore brought nothing that was not held.
+    pub again: bool,
+    /// A restore brought something that was held to a generation with no room for anything else.
+    pub filled: bool,
 }
 
 #[derive(Default)]
@@ -202,7 +206,11 @@ impl Ledger {
         let Some((dump, read)) = dump::read(bytes) else {
             return Err("the dump is cut short".into());
         };
-        let whole = self.enter(register, &dump);
+        let mut noted = Noted {
+            again: self.tables[register].knows_all(&dump),
+            ..Noted::default()
+        };
+        let whole = self.enter(register, &dump, &mut noted);
         if forgets || !whole {
             self.struck[register].clear();
         }
@@ -211,10 +219,11 @@ impl Ledger {
         } else {
             Answer::Partly(read)
         };
-        plain(*answer == due, || format!("{due} is due"))
+        must(*answer == due, || format!("{due} is due"))?;
+        Ok(noted)
     }
 
-    fn enter(&mut self, register: usize, dump: &Dump) -> bool {
+    fn enter(&mut self, register: usize, dump: &Dump, noted: &mut Noted) -> bool {
         let table = &mut self.tables[register];
         let mut whole = true;
         for (class, generations) in dump.classes.iter().enumerate() {
@@ -230,10 +239,14 @@ impl Ledger {
                     }
                     self.shares.enter(&draw);
                     drawn += 1;
-                    if table.clashes(class, listed.bucket) || table.crowded(class, listed.bucket) {
+                    let fingerprint = (*fingerprint).max(1);
+                    let known = table.knows(class, listed.bucket, fingerprint);
+                    let crowded = table.crowded(class, listed.bucket);
+                    if table.clashes(class, listed.bucket) || (crowded && !known) {
                         return false;
                     }
-                    table.insert(class, listed.bucket, (*fingerprint).max(1));
+                    noted.filled |= crowded;
+                    table.insert(class, listed.bucket, fingerprint);
                     true
                 });
                 if !fits {

@@ -5,7 +5,7 @@ use std::collections::{BTreeMap, BTreeSet};
 use calls::{Answer, Windows};
 
 use super::shares::second;
-use crate::dump;
+use crate::dump::{self, Dump};
 
 struct Generation {
     bucket: u64,
@@ -84,6 +84,19 @@ impl Table {
     pub fn clashes(&self, class: usize, bucket: u64) -> bool {
         let held = self.rings[class].get(&self.position(bucket));
         held.is_some_and(|held| held.bucket != bucket)
+    }
+
+    /// Whether the class holds the fingerprint in this bucket.
+    pub fn knows(&self, class: usize, bucket: u64, fingerprint: u64) -> bool {
+        let held = self.rings[class].get(&self.position(bucket));
+        held.is_some_and(|held| held.bucket == bucket && held.fingerprints.contains(&fingerprint))
+    }
+
+    /// Whether a dump lists something, and nothing that is not held where it would go.
+    pub fn knows_all(&self, dump: &Dump) -> bool {
+        let mut listed = dump.listed().peekable();
+        listed.peek().is_some()
+            && listed.all(|(class, bucket, fingerprint)| self.knows(class, bucket, fingerprint))
     }
 
     /// Whether one fingerprint more would need more than S slots.

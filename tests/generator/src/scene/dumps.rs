@@ -92,6 +92,34 @@ impl Scene {
         }
     }
 
+    /// A dump that goes back into its own register two or three times, once its bytes are known.
+    pub(super) fn restore_own(&mut self) -> Call {
+        self.returns = 2 + self.random.below(2);
+        Call::Dump {
+            register: self.register(),
+            length: None,
+        }
+    }
+
+    /// The dump restored into its own register as often as it is due, a ticket after each, and the register dumped again.
+    pub(super) fn bring_back(&mut self, register: u64, bytes: &[u8]) {
+        let returns = std::mem::take(&mut self.returns);
+        for _ in 0..returns {
+            self.ahead.push_back(Call::Restore {
+                register,
+                bytes: bytes.to_vec(),
+            });
+            let ticket = self.again();
+            self.ahead.push_back(ticket);
+        }
+        if returns > 0 {
+            self.ahead.push_back(Call::Dump {
+                register,
+                length: None,
+            });
+        }
+    }
+
     pub(super) fn proven(&mut self) -> Option<u64> {
         match self.random.below(5) {
             0 if self.random.percent(30) => Some(self.random.pick(&[0, u64::MAX])),

@@ -33,6 +33,8 @@ pub struct Scene {
     floors: Vec<u64>,
     tickets: VecDeque<Ticket>,
     dumps: VecDeque<Vec<u8>>,
+    /// How often the next dump goes back into its own register.
+    returns: u64,
     /// Calls already drawn.
     ahead: VecDeque<Call>,
     /// Calls from this opening to the next, and how many of them are left.
@@ -51,6 +53,7 @@ impl Scene {
             floors: Vec::new(),
             tickets: VecDeque::new(),
             dumps: VecDeque::new(),
+            returns: 0,
             ahead: VecDeque::new(),
             stretch: 0,
             left: 0,
@@ -72,9 +75,11 @@ impl Scene {
     /// What an answer tells that later calls are drawn from.
     pub fn learn(&mut self, call: &Call, answer: &Answer) {
         match (call, answer) {
-            (Call::Dump { .. }, Answer::Bytes(bytes)) => {
-                keep(&mut self.dumps, DUMPS, bytes.clone())
+            (Call::Dump { register, .. }, Answer::Bytes(bytes)) => {
+                keep(&mut self.dumps, DUMPS, bytes.clone());
+                self.bring_back(*register, bytes);
             }
+            (Call::Dump { .. }, _) => self.returns = 0,
             (Call::Look(Look::Floor { register }), Answer::Perhaps(Some(floor))) => {
                 self.floors[*register as usize] = *floor;
                 let windows = self.settings.windows[*register as usize];
@@ -114,6 +119,7 @@ impl Scene {
             dump_into,
             restore,
             restore_made,
+            restore_own,
             resume,
             damage,
             every_cut,
@@ -122,7 +128,7 @@ impl Scene {
             unfit,
             view,
         } = self.profile.weights;
-        let acts: [(u64, Act); 23] = [
+        let acts: [(u64, Act); 24] = [
             (take, |scene| scene.ask(Form::Take)),
             (take_batch, |scene| scene.ask(Form::TakeBatch)),
             (judge, |scene| scene.ask(Form::Judge)),
@@ -142,6 +148,7 @@ impl Scene {
             (dump_into, Self::dump_into),
             (restore, Self::restore),
             (restore_made, Self::restore_made),
+            (restore_own, Self::restore_own),
             (resume, Self::resume),
             (damage, Self::damaged),
             (every_cut, Self::every_cut),
