@@ -234,9 +234,9 @@ uint64_t strikes_dump(const uint64_t *settings, size_t settings_length, const ui
 /* Reads a dump into a register, beside what it holds: its floor is raised to the dump's, and each fingerprint of the dump is held under
    its generation's newest stamp, drawing as Restored. One that is held already draws too, and takes no slot. Where a fingerprint finds
    no share or no room, its generation fails: the draws made for it are given back, what the register holds in that bucket and class
-   goes, and the floor rises to the newest stamp that the dump has for it; the rest goes on. whole: 1 where no generation failed, else 0.
-   Where it is 0, a ticket that the register held before may be New again, so restore into a register just opened. read: the bytes of
-   the dump. Bytes past those are not looked at. A pending register is served too.
+   goes, and the floor rises to the newest stamp that the dump has for it or to that of what goes, whichever is larger; the rest goes on.
+   So a ticket that was New before is not New again, but tickets up to that stamp are Late. whole: 1 where no generation failed, else 0.
+   read: the bytes of the dump. Bytes past those are not looked at. A pending register is served too.
    Refusals: 1 to 4; 7 where the bytes end before the dump does. */
 uint64_t strikes_restore(const uint64_t *settings, size_t settings_length, uint64_t *words, size_t words_length,
                          uint64_t register_number, const uint8_t *bytes, size_t bytes_length, uint64_t *whole, uint64_t *read);

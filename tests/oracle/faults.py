@@ -36,6 +36,11 @@ FAULTS = {
     "restore-keeps-its-draws": [
         ("for _ in 0..taken {", "for _ in 0..taken * 0 {"),
     ],
+    # The floor rises to the dump's newest stamp alone, whatever is dropped.
+    "old-floor-line": [
+        ("let dropped = held.drop_bucket(slot, bucket);", "held.drop_bucket(slot, bucket);"),
+        ("self.raise_floor(newest.max(dropped.unwrap_or(0)));", "self.raise_floor(newest);"),
+    ],
     "expire-by-the-reading-alone": [
         ("let through = self.swept_by_all(now);", "let through = now.ms();"),
     ],

@@ -88,6 +88,18 @@ EDITS = [
         "held.make_room(ring, bucket) else {",
         "held.make_room(ring, bucket, fp.max(1)) else {",
     ),
+    (
+        "failure, what goes",
+        "A generation that fails is dropped; its newest stamp is kept for the floor.",
+        "held.drop_bucket(slot, bucket);",
+        "let dropped = held.drop_bucket(slot, bucket);",
+    ),
+    (
+        "failure, the floor",
+        "The floor rises to what was dropped as well; the Rust raises it to the dump's newest alone.",
+        "self.raise_floor(newest);",
+        "self.raise_floor(newest.max(dropped.unwrap_or(0)));",
+    ),
 ]
 
 # Appended at the end: a module that reads private fields and alters nothing.

@@ -53,6 +53,8 @@ FAULTS = {
     "restore-keeps-its-draws": [
         ("restoring/src/holding.rt", "give_back_all(run, s, r, h, tally.draws);", "give_back_all(run, s, r, h, 0);"),
     ],
+    # The floor rises to the dump's newest stamp alone, whatever is dropped.
+    "old-floor-line": [("register/src/forgetting.rt", "heading::raise_by(part, went);", "")],
     "expire-by-the-reading-alone": [
         ("expiring/src/lib.rt", "let least = least::least_published(run, s, reading);", "let least = reading;"),
     ],

@@ -171,7 +171,7 @@ deed-lawful r (Restore bytes) = calm (record {
   sound = λ s t fit codes h ok. restored-ok s fit r (low s r h) t ok (read-dump bytes);
   bounded = λ s t e h. restored-bounded s r t (read-dump bytes) h;
   aside = λ s q t e. restored-aside s q r (eqb-false q r e) t (read-dump bytes);
-  keeps = λ s k x pos fit h ok struck e. restored-keeps s k pos fit r x (low s r h) ok struck (read-dump bytes) e;
+  keeps = λ s k x pos fit h ok struck e. restored-keeps s k pos fit r x (low s r h) ok struck (read-dump bytes);
   floors = λ s t q e f h. restored-stands s r t q f h (read-dump bytes);
 })
 deed-lawful r (Resume bytes flag floor) = calm (record {

@@ -1,14 +1,14 @@
 -- What is done to a register leaves its floor no lower, a resume apart; a failed generation and a proven floor raise it. Assumes nothing.
-use Prim.Native.Nat.{ℕ, _-_, max}
+use Prim.Native.Nat.{ℕ, _-_, _≤_, max}
 use native.Mathlib.Omega.{arith}
 use mathlib.Core.Path.{_≡_, refl, sym, _∙_, ap, subst}
-use mathlib.Core.Bool.{Bool, not}
+use mathlib.Core.Bool.{Bool, true, not}
 use mathlib.Core.List.{List, [], _∷_}
 use mathlib.Core.Option.{Option, none, some}
 use lib.Dec.{eqb, ltb}
 use lib.ListN.{length, getD, set, List·getD-eq-default}
 use lib.Seq.{getD-set-same, getD-set-other}
-use borrow.Author.Tests.{eqb-true, eqb-false, ltb-true, ltb-false}
+use borrow.Author.Tests.{eqb-true, eqb-false, leb-true, ltb-true, ltb-false}
 use Rattle.model.specs.declared.Class.{Class}
 use Rattle.model.specs.declared.Class.the-variants.{Feeders, Peers, Own}
 use Rattle.model.specs.declared.Deliverer.the-variants.{Restored}
@@ -19,7 +19,7 @@ use Rattle.model.specs.declared.Shares.{Shares}
 use Rattle.model.specs.declared.Usable.{Usable}
 use Rattle.model.specs.declared.Verdict.{Verdict}
 use Rattle.runs.proofs.Cases.{by-test, split-if, no}
-use Rattle.model.specs.Numbers.{raise}
+use Rattle.model.specs.Numbers.{raise, under}
 use Rattle.model.specs.Settings.{usable-at}
 use Rattle.model.specs.Book.{Book, second-of, granted, draw-says, drawn}
 use Rattle.model.specs.Register.{Register, strike, sweep, begin}
@@ -40,6 +40,19 @@ pub raised-to : (n : ℕ) (floor : Option ℕ) → NoLower n (raise floor n)
 unfolding raise
 raised-to n none = record { level = n; there = refl; no-lower = omega arith }
 raised-to n (some f) = record { level = max f n; there = refl; no-lower = omega arith }
+
+-- and at least what is no larger
+pub lower : (n m : ℕ) (floor : Option ℕ) → n ≤ m → NoLower m floor → NoLower n floor
+lower n m floor h k = let l = k .no-lower in record { level = k .level; there = k .there; no-lower = omega arith }
+
+pub raised-past : (n m : ℕ) (floor : Option ℕ) → n ≤ m → NoLower n (raise floor m)
+raised-past n m floor h = lower n m _ h (raised-to m floor)
+
+-- a stamp at or below the floor
+pub under-stands : (t : ℕ) (floor : Option ℕ) → under t floor ≡ true → NoLower t floor
+unfolding under
+under-stands t none p = no (cc)
+under-stands t (some f) p = record { level = f; there = refl; no-lower = leb-true t f p }
 
 -- ---- sweep, judge, take, begin
 pub sweep-stands : (u : Usable) (ms : ℕ) (reg : Register) (f : ℕ) → Stands f reg → Stands f (sweep u ms reg)
@@ -85,7 +98,7 @@ module _ (u : Usable) (b : Shares) (f : ℕ) where
   all-stands c d [] h s = s
   all-stands c d (p ∷ ps) h s = all-stands c d ps (hold-one u b c d p h) (one-stands c d p h s)
 
-  settled-stands : (c : Class) (d : Dumped) (whole : Bool) (h : Holding) → Stands f (h .register) → Stands f (settled u c d whole h .register)
+  pub settled-stands : (c : Class) (d : Dumped) (whole : Bool) (h : Holding) → Stands f (h .register) → Stands f (settled u c d whole h .register)
   unfolding settled failed
   settled-stands c d whole h s =
       split-if (λ (y : Restoring). Stands f (y .register)) (h .fits) (λ e. s) (λ e. raised f _ (h .register .floor) s)

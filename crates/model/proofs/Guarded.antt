@@ -1,5 +1,5 @@
--- What a state owes to a ticket that was struck: every call but an opening, and on its register a resume or a restore that comes out
--- Partly, keeps it struck, none answers New for it, and a take that answers New strikes it. Assumes nothing.
+-- What a state owes to a ticket that was struck: every call but an opening, and on its register a resume, keeps it struck, none answers
+-- New for it, and a take that answers New strikes it. Assumes nothing.
 use Prim.Native.Nat.{ℕ, _<_}
 use mathlib.Core.Path.{_≡_, sym, _∙_, ap, subst}
 use mathlib.Core.Bool.{true, false, _&&_}
@@ -17,11 +17,11 @@ use Rattle.model.specs.Settings.{usable-at, settings-fit}
 use Rattle.model.specs.Generation.{as-read}
 use Rattle.model.specs.Register.{Register}
 use Rattle.model.specs.Judge.{bucket-of, judge-batch}
-use Rattle.model.specs.Dump.{Dump, restore, resume}
+use Rattle.model.specs.Dump.{Dump, resume}
 use Rattle.model.specs.Words.{State, state-form}
 use Rattle.model.specs.Calls.{Manner, judged, judged-batch, taken, taken-batch, Asking, manner-sort, no-register, register-at, with-register, ask-of, after-judged}
 use Rattle.model.specs.Calls.{after-taken, asked, after-restored, restored, resumed}
-use Rattle.model.specs.Codes.{went-through, partly}
+use Rattle.model.specs.Codes.{went-through}
 use Rattle.model.specs.Once.{Strike, strike-of, sort-asks, sort-takes}
 use Rattle.model.proofs.Choice.{and-false, true-false}
 use Rattle.model.proofs.Struck.{Struck}
@@ -84,20 +84,14 @@ module _ (s : Settings) (t : Strike) (pos : 0 < t .print) where
     asked-silent taken a e n = take-not-new (usable-at s r) (s .shares) (register-at r x) (x .book) (ask-of a) (ours a e) (said-is _ n)
     asked-silent taken-batch a e n = take-batch-not-new (usable-at s r) (s .shares) (register-at r x) (x .book) (ask-of a) (ours a e) (said-is _ n)
 
-    -- a restore here that comes out Whole, and one elsewhere
-    whole-keeps : (d : Dump) → restore (usable-at s r) (s .shares) d (register-at r x) (x .book) .whole ≡ true
-        → StruckIn s t (with-register r (restore (usable-at s r) (s .shares) d (register-at r x) (x .book) .register) x)
-    whole-keeps d w = put-here r x here struck _
+    -- a restore, however it comes out
+    pub restored-keeps : (d : Option Dump) → StruckIn s t (restored s r x d .state)
+    unfolding restored after-restored
+    restored-keeps none = struck
+    restored-keeps (some d) = put-here r x here struck _
         (λ b fp n z k. restore-struck (usable-at s r) (s .shares) (slots-small (usable-at s r) (fit-usable s r fit h)) (pairs-some (s .shares) (fit-shares s fit)) b fp n
         z d (register-at r x) (x .book)
-        (record { register = reg-ok; book = book-in s x ok }) w k)
-
-    pub restored-keeps : (d : Option Dump) → (eqb (t .register) r && partly (restored s r x d .answer)) ≡ false → StruckIn s t (restored s r x d .state)
-    unfolding restored after-restored partly
-    restored-keeps none e = struck
-    restored-keeps (some d) e =
-        by-test (restore (usable-at s r) (s .shares) d (register-at r x) (x .book) .whole) (λ w. whole-keeps d w)
-        (λ w. and-false (eqb (t .register) r) _ e (λ f. put-elsewhere r x here struck _ f) (λ f. true-false (rw w) f))
+        (record { register = reg-ok; book = book-in s x ok }) k)
 
     pub resumed-keeps : (p : Option ℕ) (d : Option Dump) → (eqb (t .register) r && went-through (resumed s r x p d .answer)) ≡ false
         → StruckIn s t (resumed s r x p d .state)

@@ -55,7 +55,9 @@ pub mod AheadOnly
 pub mod Windows
 pub mod Seconds
 pub mod Expiry
-pub mod FailureRaises
+pub mod FloorCovers
+pub mod PartlyRaises
+pub mod ListedStruck
 pub mod StatementCases
 pub mod BringsBack
 pub mod SameDump
@@ -65,3 +67,4 @@ pub mod SameAnswers
 pub mod WorkedOnWords
 pub mod ToldApart
 pub mod ViewCases
+pub mod PartlyCases

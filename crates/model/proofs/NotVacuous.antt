@@ -113,17 +113,17 @@ pub held-through-a-restore : (moments words (given (open-at 4) ∷ given (ask ta
 unfolding compute-all
 held-through-a-restore = (refl, refl)
 
--- and one that comes out Partly does: three fingerprints find no room beside 7, their bucket is dropped, and the floor rises to the
--- dump's newest stamp, 5, alone
+-- nor does one that comes out Partly: three fingerprints find no room beside 7, their bucket is dropped, and 7 is late
 abbrev pub three-more : Call
 three-more = brings (0 ∷ 1 ∷ 3 ∷ 5 ∷ 3 ∷ 8 ∷ 9 ∷ 10 ∷ 0 ∷ 0 ∷ [])
 
-pub new-after-partly : moments words (given (open-at 4) ∷ given (ask taken 1 7 6) ∷ given three-more ∷ given (ask taken 1 7 6) ∷ [])
-    ≡ Answered (open-at 4) Done ∷ Answered (ask taken 1 7 6) (Said New) ∷ Answered three-more (Partly 80) ∷ Answered (ask taken 1 7 6) (Said New) ∷ []
+pub late-through-a-restore : (moments words (given (open-at 4) ∷ given (ask taken 1 7 6) ∷ given three-more ∷ given (ask taken 1 7 6) ∷ [])
+    ≡ Answered (open-at 4) Done ∷ Answered (ask taken 1 7 6) (Said New) ∷ Answered three-more (Partly 80) ∷ Answered (ask taken 1 7 6) (Said Late) ∷ [])
+    × (remade-among 0 (left-by opened-words (given (ask taken 1 7 6))) (given three-more ∷ []) ≡ false)
 unfolding compute-all
-new-after-partly = refl
+late-through-a-restore = (refl, refl)
 
--- and so does a resume, which forgets the floor: 7 was swept, and the floor 6 made it Late
+-- a resume ends it, which forgets the floor: 7 was swept, and the floor 6 made it Late
 abbrev pub nothing-proven : Call
 nothing-proven = On 0 (Resume (flat word-bytes (0 ∷ 0 ∷ 0 ∷ 0 ∷ [])) 0 0)
 

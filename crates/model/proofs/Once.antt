@@ -82,7 +82,7 @@ module _ (st ws : List ℕ) (call : Call) where
     was-vetted o = let e = entered st ws call z in record { fit = e .fit; long = e .long; sound = e .vets o }
 
     -- what is struck in the state that is left is guarded by the words that are left
-    guarded-after : (t : Strike) → StruckIn s t (step s call held .state) → Guarded t (after st ws call)
+    pub guarded-after : (t : Strike) → StruckIn s t (step s call held .state) → Guarded t (after st ws call)
     guarded-after t h =
         guarded-by t st (after st ws call) (after-vetted st ws call z)
         (subst (λ (x : State). StruckIn s t x) (sym (after-holds st ws call z)) h)
@@ -122,7 +122,7 @@ module _ (st ws : List ℕ) (call : Call) where
         guarded-after z t (good z (v .fit) (vetted-ok st ws v) t pos (g .struck st v) .keeps r)))
         (λ d. subst (λ (l : List ℕ). Guarded t l) (sym (refused-words st ws call d)) g)
 
-    call-silent : CalledNew t seen → ⊥
+    pub call-silent : CalledNew t seen → ⊥
     call-silent c =
         by-test (eqb (refused st ws call) 0)
         (λ d. let z = eqb-true (refused st ws call) 0 d in
@@ -173,7 +173,7 @@ leaves-alone r st ws after v w e = record {
 }
 
 -- ---- lists of calls
-guarded-through : (t : Strike) → 0 < t .print → (gs : List Given) (ws : List ℕ) → remade-among (t .register) ws gs ≡ false → Guarded t ws
+pub guarded-through : (t : Strike) → 0 < t .print → (gs : List Given) (ws : List ℕ) → remade-among (t .register) ws gs ≡ false → Guarded t ws
     → Guarded t (words-after ws gs)
 unfolding remade-among words-after
 guarded-through t pos [] ws e g = g

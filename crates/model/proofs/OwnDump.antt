@@ -27,13 +27,12 @@ use Rattle.model.specs.Generation.{Generation, empty, count, held, among
 use Rattle.model.specs.Book.{Book, second-of, granted, draw-says, drawn}
 use Rattle.model.specs.Register.{Ring, Register, with-rings, generation-at, with-generation, holds, strike}
 use Rattle.model.specs.Dump.{fingerprints, held-list, dumped-floor, Dump, read-dump, Holding, hold-room, hold-one, hold-all, Restoring, restore-class}
-use Rattle.model.specs.Dump.{raised-to-dumped, restore}
+use Rattle.model.specs.Dump.{begun, raised-to-dumped, restore}
 use Rattle.model.specs.GenerationWords.{GenerationOk}
 use Rattle.model.specs.RegisterWords.{register-form}
 use Rattle.model.specs.Words.{State}
 use Rattle.model.specs.Codes.{went-through}
 use Rattle.model.specs.Calls.{On, Restore, no-register, register-at, bytes-read, after-restored, restored, done-on, step, is-open, no-such-register, held-in, after}
-use Rattle.model.specs.FailureRaises.{begun}
 use Rattle.model.specs.BringsBack.{bytes-of}
 use Rattle.model.specs.SameDump.{all-held, OwnDumpLeaves}
 use Rattle.model.proofs.Growth.{held-kept, among-count, ok-ways, ok-found}

@@ -22,8 +22,7 @@ use Rattle.model.specs.Class.{pick}
 use Rattle.model.specs.Generation.{Generation, empty, among, as-read, insert}
 use Rattle.model.specs.Book.{Book, second-of, granted, draw-says, drawn}
 use Rattle.model.specs.Register.{Ring, Register, generation-at, with-generation, holds, strike}
-use Rattle.model.specs.Dump.{Dumped, Holding, hold-room, hold-one, hold-all, Restoring, settled, restore-class, raised-to-dumped, restore}
-use Rattle.model.specs.FailureRaises.{begun}
+use Rattle.model.specs.Dump.{Dumped, Holding, hold-room, hold-one, hold-all, Restoring, begun, settled, restore-class, raised-to-dumped, restore}
 use Rattle.model.specs.SameDump.{slots-in, all-held, SameDumpAgain, HeldAsksAShare, each-held, WholeDumpAgain}
 use Rattle.model.proofs.Choice.{swap-cases}
 use Rattle.model.proofs.Probing.{Found}

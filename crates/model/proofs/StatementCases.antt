@@ -11,7 +11,8 @@ use Rattle.model.specs.declared.Answer.the-variants.{Refused, Done, Said
 use Rattle.model.specs.Settings.{settings-of, usable-at}
 use Rattle.model.specs.Codes.{verdict-number, answer-number}
 use Rattle.model.specs.Book.{second-of}
-use Rattle.model.specs.Dump.{Dumped, Restoring, word-bytes, hold-all, restore-class}
+use Rattle.model.specs.Register.{generation-at}
+use Rattle.model.specs.Dump.{Dumped, Holding, Restoring, word-bytes, tried, restore-class}
 use Rattle.model.specs.Calls.{Manner, judged, judged-batch, taken, taken-batch, Ticket, ContainsHash, Begin, Sweep, DumpTo, Resume, Floor, Pending, SweptBucket}
 use Rattle.model.specs.Calls.{ViewRegister, Call, Open, On, Expire, HeldBy, ClassTotals, ViewDeliverer, only-reads, register-at, held-in}
 use Rattle.model.specs.View.{answered, left-by, words-after}
@@ -20,7 +21,6 @@ use Rattle.model.specs.SameAnswers.{served, answers-from}
 use Rattle.model.specs.Worked.{before, open-ample, take-it}
 use Rattle.model.specs.Worked.{settings as paper-settings, ask as ask-of-kind}
 use Rattle.model.specs.Floors.{forgotten-among, compute-floors}
-use Rattle.model.specs.FailureRaises.{begun}
 use Rattle.model.proofs.NotVacuous.{compute-all, settings, words, given, open-at, opened-words, ask, three-more, nothing-proven}
 
 -- ---- the calls that only read (specs/ReadersLeave), on any register, of any numbers and any output. These do: `contains_hash`, dump, floor,
@@ -98,9 +98,9 @@ pub found-at-position-1 : moments opened-words
 unfolding compute-all
 found-at-position-1 = refl
 
--- ---- a failed generation: three fingerprints find no room, and the floor is the dump's newest stamp
+-- ---- a failed generation: three fingerprints find no room, and the floor is 6, the newest stamp of what is dropped; the dump's is 5
 pub floor-of-the-failed : moments opened-words (given (ask taken 1 7 6) ∷ given three-more ∷ given (On 0 Floor) ∷ [])
-    ≡ Answered (ask taken 1 7 6) (Said New) ∷ Answered three-more (Partly 80) ∷ Answered (On 0 Floor) (FloorAt 5) ∷ []
+    ≡ Answered (ask taken 1 7 6) (Said New) ∷ Answered three-more (Partly 80) ∷ Answered (On 0 Floor) (FloorAt 6) ∷ []
 unfolding compute-all
 floor-of-the-failed = refl
 
@@ -111,11 +111,14 @@ brought bucket prints = record { bucket = bucket; newest = 5; prints = prints }
 abbrev opened-register : Restoring
 opened-register = record { register = register-at 0 (held-in (settings-of settings) opened-words); book = held-in (settings-of settings) opened-words .book; whole = true }
 
-pub second-fails : hold-all (usable-at (settings-of settings) 0) (settings-of settings .shares) Feeders (brought 3 (8 ∷ 9 ∷ 10 ∷ 11 ∷ []))
-    (8 ∷ 9 ∷ 10 ∷ 11 ∷ [])
-    (begun (restore-class (usable-at (settings-of settings) 0) (settings-of settings .shares) Feeders (brought 2 (7 ∷ []) ∷ []) opened-register)) .fits ≡ false
+abbrev second-tried : Holding
+second-tried =
+    tried (usable-at (settings-of settings) 0) (settings-of settings .shares) Feeders (brought 3 (8 ∷ 9 ∷ 10 ∷ 11 ∷ []))
+    (restore-class (usable-at (settings-of settings) 0) (settings-of settings .shares) Feeders (brought 2 (7 ∷ []) ∷ []) opened-register)
+
+pub second-fails : (second-tried .fits ≡ false) × (generation-at (second-tried .register .rings .of-feeders) 3 .bucket ≡ 3)
 unfolding compute-all
-second-fails = refl
+second-fails = (refl, refl)
 
 -- ---- the settings of the worked cases. Late and Ahead: behind the window both say Late, past its front judge says Late
 pub late-and-ahead : answers-from paper-settings before

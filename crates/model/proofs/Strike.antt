@@ -17,7 +17,7 @@ use Rattle.model.specs.Judge.{make-room}
 use Rattle.model.proofs.Choice.{swap-cases, swap-same, or-right}
 use Rattle.model.proofs.Probing.{Found}
 use Rattle.model.proofs.Growth.{inserted, among-count, ok-found}
-use Rattle.model.proofs.Struck.{Keeps, In, in-same, in-other, Struck, in-class, below-floor}
+use Rattle.model.proofs.Struck.{Keeps, In, in-same, in-other, Safe, is-in, is-under, Struck, seen-in, struck-by, struck-on}
 use Rattle.model.proofs.Bounds.{ring-positive}
 use Rattle.model.proofs.RingsKept.{RingOk, RegisterOk, ring-some, at-ok, room-found}
 
@@ -58,21 +58,28 @@ module _ (u : Usable) where
       (λ d. absurd (omega (arith, among-count fp (g .slots) z (k .holds-it)))))
       (λ other. in-other b fp t (b₁ % n) ring (insert b₁ fp₁ t₁ g) (eqb-false (b % n) (b₁ % n) other) h)
 
-  -- ---- a register: what was struck stays struck
-  pub struck-strike : (b fp t b₁ fp₁ t₁ i : ℕ) (c : Class) (reg : Register) → 0 < fp → 0 < fp₁ → RegisterOk u reg
-      → make-room (u .slots) b₁ fp₁ (pick c (reg .rings)) ≡ At i → Struck b fp t reg → Struck b fp t (strike c b₁ fp₁ t₁ reg)
+  -- ---- a register: what was struck stays struck, in each class
+  pub safe-strike : (b fp t b₁ fp₁ t₁ i : ℕ) (c d : Class) (reg : Register) → 0 < fp → 0 < fp₁ → RegisterOk u reg
+      → make-room (u .slots) b₁ fp₁ (pick c (reg .rings)) ≡ At i → Safe b fp t (seen-in d reg) → Safe b fp t (seen-in d (strike c b₁ fp₁ t₁ reg))
   unfolding strike
-  struck-strike b fp t b₁ fp₁ t₁ i c reg z z₁ ok r (below-floor p) = below-floor p
-  struck-strike b fp t b₁ fp₁ t₁ i c reg z z₁ ok r (in-class d h) =
+  safe-strike b fp t b₁ fp₁ t₁ i c d reg z z₁ ok r (is-under p) = is-under p
+  safe-strike b fp t b₁ fp₁ t₁ i c d reg z z₁ ok r (is-in h) =
       let ring = pick c (reg .rings) in
-      in-class d (swap-cases (λ (x : Ring). In b fp t x) c d (with-generation ring b₁ (insert b₁ fp₁ t₁ (generation-at ring b₁))) (reg .rings)
+      is-in (swap-cases (λ (x : Ring). In b fp t x) c d (with-generation ring b₁ (insert b₁ fp₁ t₁ (generation-at ring b₁))) (reg .rings)
       (λ e. in-strike b fp t b₁ fp₁ t₁ i ring z z₁ (ok .rings c) r (subst (λ (k : Class). In b fp t (pick k (reg .rings))) (sym e) h)) h)
 
-  -- and so is the new ticket
-  pub struck-new : (b fp t : ℕ) (c : Class) (reg : Register) → 0 < fp → RegisterOk u reg → Struck b fp t (strike c b fp t reg)
+  pub struck-strike : (b fp t b₁ fp₁ t₁ i : ℕ) (c : Class) (reg : Register) → 0 < fp → 0 < fp₁ → RegisterOk u reg
+      → make-room (u .slots) b₁ fp₁ (pick c (reg .rings)) ≡ At i → Struck b fp t reg → Struck b fp t (strike c b₁ fp₁ t₁ reg)
+  struck-strike b fp t b₁ fp₁ t₁ i c reg z z₁ ok r s = struck-on b fp t reg _ (λ d. safe-strike b fp t b₁ fp₁ t₁ i c d reg z z₁ ok r) s
+
+  -- and so is the new ticket, in its class
+  pub safe-new : (b fp t : ℕ) (c : Class) (reg : Register) → 0 < fp → RegisterOk u reg → Safe b fp t (seen-in c (strike c b fp t reg))
   unfolding strike
-  struck-new b fp t c reg z ok =
+  safe-new b fp t c reg z ok =
       let ring = pick c (reg .rings) in
       let g = generation-at ring b in
-      in-class c (swap-same (λ (x : Ring). In b fp t x) c (with-generation ring b (insert b fp t g)) (reg .rings)
+      is-in (swap-same (λ (x : Ring). In b fp t x) c (with-generation ring b (insert b fp t g)) (reg .rings)
       (in-same b fp t (b % length ring) ring (insert b fp t g) refl (ring-some u ring (ok .rings c)) (insert-new b fp t g z (found-at ring b (ok .rings c)))))
+
+  pub struck-new : (b fp t : ℕ) (c : Class) (reg : Register) → 0 < fp → RegisterOk u reg → Struck b fp t (strike c b fp t reg)
+  struck-new b fp t c reg z ok = struck-by b fp t c _ (safe-new b fp t c reg z ok)

@@ -83,6 +83,19 @@ pub data Struck (b fp t : ℕ) (reg : Register) : Type 0 where
   in-class : (c : Class) → In b fp t (pick c (reg .rings)) → Struck b fp t reg
   below-floor : under t (reg .floor) ≡ true → Struck b fp t reg
 
+-- which class it is in does not matter: what keeps it safe in each class keeps it struck
+abbrev pub seen-in : Class → Register → Swept
+seen-in c reg = record { floor = reg .floor; ring = pick c (reg .rings) }
+
+pub struck-by : (b fp t : ℕ) (c : Class) (reg : Register) → Safe b fp t (seen-in c reg) → Struck b fp t reg
+struck-by b fp t c reg (is-in h) = in-class c h
+struck-by b fp t c reg (is-under p) = below-floor p
+
+pub struck-on : (b fp t : ℕ) (reg after : Register) → ((c : Class) → Safe b fp t (seen-in c reg) → Safe b fp t (seen-in c after)) → Struck b fp t reg
+    → Struck b fp t after
+struck-on b fp t reg after f (in-class c h) = struck-by b fp t c after (f c (is-in h))
+struck-on b fp t reg after f (below-floor p) = struck-by b fp t Feeders after (f Feeders (is-under p))
+
 -- a sweep goes through the three rings, and each raises the floor that the next one begins with
 module _ (b fp t from through : ℕ) (reg : Register) where
   after-feeders : Swept

@@ -44,16 +44,14 @@ pub record Outgoing : Type 0 where
   pub values : List ℕ
   -- "A call went through if it got no refusal number; Partly counts."
   pub through : Bool
-  -- a restore that came out Partly: some generation failed, and what its bucket held has gone
-  pub partly : Bool
 
 abbrev pub with-values : List ℕ → Outgoing
-with-values vs = record { number = 0; values = vs; through = true; partly = false }
+with-values vs = record { number = 0; values = vs; through = true }
 
 -- a verdict's number; 1 for yes and for begun, 0 for no and for already; 1 for whole and 0 for partly, with the bytes read; whether
 -- there is a floor, and the floor
 unfoldable pub outgoing : Answer → Outgoing
-outgoing (Refused n) = record { number = n; values = []; through = false; partly = false }
+outgoing (Refused n) = record { number = n; values = []; through = false }
 outgoing Done = with-values []
 outgoing (Said v) = with-values (verdict-number v ∷ [])
 outgoing Yes = with-values (1 ∷ [])
@@ -63,7 +61,7 @@ outgoing Already = with-values (0 ∷ [])
 outgoing (Dumped n) = with-values (n ∷ [])
 outgoing (Viewed n) = with-values (n ∷ [])
 outgoing (Whole n) = with-values (1 ∷ n ∷ [])
-outgoing (Partly n) = record { number = 0; values = 0 ∷ n ∷ []; through = true; partly = true }
+outgoing (Partly n) = with-values (0 ∷ n ∷ [])
 outgoing NoFloor = with-values (0 ∷ 0 ∷ [])
 outgoing (FloorAt f) = with-values (1 ∷ f ∷ [])
 outgoing (SweptTo b ms) = with-values (b ∷ ms ∷ [])
@@ -82,10 +80,6 @@ unfoldable pub went-through : Answer → Bool
 unfolding outgoing
 went-through a = outgoing a .through
 
-unfoldable pub partly : Answer → Bool
-unfolding outgoing
-partly a = outgoing a .partly
-
 -- a draw's answer, in the order in which the rules are tried
 unfoldable pub draw-number : Draw → ℕ
 draw-number Granted = 0
@@ -99,5 +93,5 @@ draw-number Pairs = 7
 
 -- the rules of this file, for a theorem that computes
 unfoldable pub compute-codes : ℕ
-unfolding start-of verdict-number outgoing answer-number answer-values went-through partly draw-number
+unfolding start-of verdict-number outgoing answer-number answer-values went-through draw-number
 compute-codes = 0

@@ -1,5 +1,5 @@
 -- "Dump": a register's floor and generations as bytes, restore and resume.
-use Prim.Native.Nat.{ℕ, zero, suc, _+_, _-_, _*_, _/_, _%_}
+use Prim.Native.Nat.{ℕ, zero, suc, _+_, _-_, _*_, _/_, _%_, max}
 use mathlib.Core.Bool.{Bool, true, false, cond, not}
 use mathlib.Core.List.{List, [], _∷_, _++_}
 use mathlib.Core.Option.{Option, none, some}
@@ -15,10 +15,10 @@ use Rattle.model.specs.declared.Usable.{Usable}
 use Rattle.model.specs.declared.Shares.{Shares}
 use Rattle.runs.specs.Chunks.{flat}
 use Rattle.model.specs.Numbers.{if_then_else_, cap64, raise}
-use Rattle.model.specs.Class.{Each, pick, swap}
+use Rattle.model.specs.Class.{Each, pick}
 use Rattle.model.specs.Generation.{Generation, held, as-read, dropped}
 use Rattle.model.specs.Book.{Book, second-of, granted, draw-says, drawn, undrawn}
-use Rattle.model.specs.Register.{Ring, Register, with-floor, with-rings, generation-at, with-generation, strike}
+use Rattle.model.specs.Register.{Ring, Register, with-floor, raised, in-ring, generation-at, with-generation, strike}
 use Rattle.model.specs.Judge.{make-room}
 
 -- ---- "Little-endian 64-bit words": a number and its bytes
@@ -84,6 +84,11 @@ pub record Dump : Type 0 where
   pub classes : Each (List Dumped)
   -- how many words it has
   pub words : ℕ
+
+-- one of a list: a generation of those that a class lists, a fingerprint of those that a generation lists
+pub data OneOf {A : Type 0} (x : A) : List A → Type 0 where
+  first : {xs : List A} → OneOf x (x ∷ xs)
+  further : {y : A} {xs : List A} → OneOf x xs → OneOf x (y ∷ xs)
 
 -- what was found, and the words that are left
 pub record Cut : Type 0 where
@@ -160,15 +165,25 @@ unfoldable pub undrawn-all : ℕ → Deliverer → ℕ → Book → Book
 undrawn-all zero who s book = book
 undrawn-all (suc n) who s book = undrawn-all n who s (undrawn who s book)
 
+-- ---- a generation that failed
 -- "the generation at its position is dropped if of that bucket"
 unfoldable pub drop-bucket : ℕ → Ring → Ring
 drop-bucket b ring =
     let g = generation-at ring b in
     if eqb (g .bucket) b then with-generation ring b (dropped g) else ring
 
--- "the floor rises to the dump's newest"
+-- the newest stamp of what `drop-bucket` drops: 0 where the position has another bucket's generation, or holds nothing
+unfoldable pub dropped-newest : ℕ → Ring → ℕ
+dropped-newest b ring =
+    let g = generation-at ring b in
+    if eqb (g .bucket) b then g .newest else 0
+
+-- "The floor shall now rise to the larger of the dump's newest and the dropped generation's newest" (request Q-3), which is the newest
+-- that this generation has when it is dropped: what the dump brought before the failure counts
 unfoldable pub failed : Class → Dumped → Register → Register
-failed c d reg = with-floor (raise (reg .floor) (d .newest)) (with-rings (swap c (drop-bucket (d .bucket) (pick c (reg .rings))) (reg .rings)) reg)
+failed c d reg =
+    let went = dropped-newest (d .bucket) (pick c (reg .rings)) in
+    raised (max (d .newest) went) (in-ring c (drop-bucket (d .bucket)) reg)
 
 -- ---- restoring all
 pub record Restoring : Type 0 where
@@ -186,11 +201,16 @@ settled u c d whole h =
       whole = false;
     }
 
+-- a generation's restore begins: nothing drawn for it, and nothing failed; and all its fingerprints are tried
+abbrev pub begun : Restoring → Holding
+begun r = record { register = r .register; book = r .book; draws = 0; fits = true }
+
+abbrev pub tried : Usable → Shares → Class → Dumped → Restoring → Holding
+tried u b c d r = hold-all u b c d (d .prints) (begun r)
+
 unfoldable pub restore-class : Usable → Shares → Class → List Dumped → Restoring → Restoring
 restore-class u b c [] r = r
-restore-class u b c (d ∷ ds) r =
-    restore-class u b c ds
-    (settled u c d (r .whole) (hold-all u b c d (d .prints) (record { register = r .register; book = r .book; draws = 0; fits = true })))
+restore-class u b c (d ∷ ds) r = restore-class u b c ds (settled u c d (r .whole) (tried u b c d r))
 
 -- "It raises the floor": 0 none, else the floor and 1
 unfoldable pub raised-to-dumped : ℕ → Register → Register
@@ -205,7 +225,7 @@ restore u b d reg book =
 -- "`resume` forgets the floor first, raises it to a proven one after"
 unfoldable pub raised-to-proven : Option ℕ → Register → Register
 raised-to-proven none reg = reg
-raised-to-proven (some p) reg = with-floor (raise (reg .floor) p) reg
+raised-to-proven (some p) reg = raised p reg
 
 unfoldable pub resume : Usable → Shares → Dump → Option ℕ → Register → Book → Restoring
 resume u b d proven reg book =
@@ -214,5 +234,5 @@ resume u b d proven reg book =
 
 -- the rules of this file, for a theorem that computes
 unfoldable pub compute-dump : ℕ
-unfolding flat number-of bytes-of words-in dumped-floor fingerprints held-list class-words dump-words dump-bytes found-first read-generations read-class read-own read-peers read-feeders read-words read-dump hold-room hold-one hold-all undrawn-all drop-bucket failed settled restore-class raised-to-dumped restore raised-to-proven resume
+unfolding flat number-of bytes-of words-in dumped-floor fingerprints held-list class-words dump-words dump-bytes found-first read-generations read-class read-own read-peers read-feeders read-words read-dump hold-room hold-one hold-all undrawn-all drop-bucket dropped-newest failed settled restore-class raised-to-dumped restore raised-to-proven resume
 compute-dump = 0

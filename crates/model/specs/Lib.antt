@@ -39,7 +39,9 @@ pub mod AheadOnly
 pub mod Windows
 pub mod Seconds
 pub mod Expiry
-pub mod FailureRaises
+pub mod FloorCovers
+pub mod PartlyRaises
+pub mod ListedStruck
 pub mod BringsBack
 pub mod SameDump
 pub mod SameAnswers

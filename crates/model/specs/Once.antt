@@ -1,10 +1,10 @@
 -- "No ticket is accepted twice", for every list of calls on the same words, whatever the clock reads.
 --
 -- After a take or a take_batch answered New for a fingerprint (as read) and a stamp on a register, no later judge, take,
--- judge_batch or take_batch on that register answers New for the same, up to an opening that went through, a resume on that register
--- that went through, or a restore on it that came out Partly. A restore that came out Whole only adds, and ends nothing. The words at
--- the start are any words; each call brings its own settings, register, reading and bytes; calls that are refused stand in the list
--- like the others.
+-- judge_batch or take_batch on that register answers New for the same. Two things end this, and nothing else: an opening that went
+-- through, and a resume on that register that went through. A restore ends nothing, whether it comes out Whole or Partly or is
+-- refused. The words at the start are any words; each call brings its own settings, register, reading and bytes; calls that are
+-- refused stand in the list like the others.
 use Prim.Native.Nat.{ℕ}
 use mathlib.Core.Path.{_≡_}
 use mathlib.Core.Bool.{Bool, true, false, _&&_, _||_}
@@ -18,7 +18,7 @@ use Rattle.model.specs.Settings.{settings-of}
 use Rattle.model.specs.Generation.{as-read}
 use Rattle.model.specs.Calls.{Asking, Call, Sort, Asks, Takes, Restores, Resumes, Plain, Kind, Opens, OnOne, Sets, Other, kind, register-at, held-in}
 use Rattle.model.specs.View.{Given, answered, left-by, words-after}
-use Rattle.model.specs.Codes.{went-through, partly}
+use Rattle.model.specs.Codes.{went-through}
 use Rattle.model.specs.Soundness.{Vetted}
 
 -- a ticket on a register; the fingerprint as it is read
@@ -59,11 +59,11 @@ takes (OnOne r d) = sort-takes r d
 takes (Sets limits) = none
 takes Other = none
 
--- what makes a register afresh, by its answer
+-- what makes a register afresh, by its answer: of all that is done on a register, a resume alone
 unfoldable pub renews : Sort → Answer → Bool
 renews (Asks t) a = false
 renews (Takes t) a = false
-renews Restores a = partly a
+renews Restores a = false
 renews Resumes a = went-through a
 renews Plain a = false
 
@@ -75,7 +75,7 @@ remakes r (Sets limits) a = false
 remakes r Other a = false
 
 -- ---- lists of calls
--- an opening or a resume on register r that went through, or a restore on it that came out Partly
+-- an opening that went through, or a resume on register r that did
 abbrev pub remade-by : ℕ → Call → Answer → Bool
 remade-by r c a = remakes r (kind c) a
 

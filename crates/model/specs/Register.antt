@@ -33,6 +33,13 @@ with-floor f reg = record { swept = reg .swept; floor = f; pending = reg .pendin
 abbrev pub with-rings : Each Ring → Register → Register
 with-rings e reg = record { swept = reg .swept; floor = reg .floor; pending = reg .pending; spare = reg .spare; rings = e }
 
+-- the register with its floor raised to a stamp, or with what a function makes of a class's ring
+abbrev pub raised : ℕ → Register → Register
+raised stamp reg = with-floor (raise (reg .floor) stamp) reg
+
+abbrev pub in-ring : Class → (Ring → Ring) → Register → Register
+in-ring c f reg = with-rings (swap c (f (pick c (reg .rings))) (reg .rings)) reg
+
 -- ---- positions: bucket mod ring
 abbrev pub generation-at : Ring → ℕ → Generation
 generation-at ring b = getD ring (b % length ring) empty

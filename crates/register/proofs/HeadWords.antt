@@ -14,7 +14,7 @@ use Rattle.model.specs.declared.Answer.{Answer}
 use Rattle.model.specs.declared.Answer.the-variants.{NoFloor, FloorAt, Begun, Already}
 use Rattle.model.specs.declared.Usable.{Usable}
 use Rattle.model.specs.Numbers.{raise, under}
-use Rattle.model.specs.Register.{Register, with-floor, swept-to, published, begin}
+use Rattle.model.specs.Register.{Register, with-floor, raised, swept-to, published, begin}
 use Rattle.model.specs.RegisterWords.{floor-flag, floor-word, read-floor, read-heading, register-form}
 use Rattle.model.specs.Dump.{raised-to-dumped}
 use Rattle.model.specs.Calls.{floor-answer}
@@ -22,7 +22,7 @@ use Rattle.model.proofs.RegisterWords.{flag-read}
 use Rattle.generation.specs.declared.Dropped.{Dropped}
 use Rattle.generation.specs.declared.Dropped.the-variants.{Nothing, Newest}
 use Rattle.numbers.specs.Layout.{pending-at}
-use Rattle.register.specs.Rules.{raised, raised-with, begin-says, swept-answer, floor-gone}
+use Rattle.register.specs.Rules.{raised-with, begin-says, swept-answer, floor-gone}
 use Rattle.register.specs.Heading.{published-in, swept-in, sweep-stored, floor-stored, floor-raised, floor-raised-by, floor-dumped, begun-in, begin-told}
 use Rattle.register.specs.Words.{RegisterReads, RegisterTurns}
 

@@ -13,7 +13,7 @@ use Rattle.model.specs.declared.Room.{Room}
 use Rattle.model.specs.declared.Usable.{Usable}
 use Rattle.model.specs.Settings.{usable-fit}
 use Rattle.model.specs.Class.{class-number, pick}
-use Rattle.model.specs.Register.{Ring, Register}
+use Rattle.model.specs.Register.{Ring, Register, in-ring}
 use Rattle.model.specs.RegisterWords.{ring-form, register-form}
 use Rattle.model.specs.Words.{ring-width, ring-start}
 use Rattle.model.specs.Judge.{make-room}
@@ -26,7 +26,6 @@ use Rattle.numbers.proofs.Placing.{ring-within}
 use Rattle.ring.specs.Ring.{PositionOf, RingWords, RingReads, RingTurns}
 use Rattle.register.specs.declared.extents.RingExtent.{RingExtent}
 use Rattle.register.specs.declared.extents.Rings.{Rings}
-use Rattle.register.specs.Rules.{in-ring}
 use Rattle.register.specs.Words.{RegisterWords, RegisterReads, RegisterTurns, RingsOf, RingAt}
 
 -- ---- where a class's ring lies, among rings of the register's sizes

@@ -15,13 +15,13 @@ use Rattle.model.specs.declared.Class.the-variants.{Feeders, Peers, Own}
 use Rattle.model.specs.declared.Usable.{Usable}
 use Rattle.model.specs.Settings.{ring-of}
 use Rattle.model.specs.Class.{pick}
-use Rattle.model.specs.Register.{Register, sweep-ring, sweep-rings, swept-to, through-of, sweep}
+use Rattle.model.specs.Register.{Register, in-ring, sweep-ring, sweep-rings, swept-to, through-of, sweep}
 use Rattle.model.specs.RegisterWords.{register-form}
 use Rattle.model.proofs.RingsKept.{from-form, to-form, swapped-ok, swept-ok, sweep-ok}
 use Rattle.generation.specs.declared.Dropped.{Dropped}
 use Rattle.ring.specs.Sweep.{swept-ring, swept-says, raised-by}
 use Rattle.ring.proofs.Sweeping.{sweep-floor}
-use Rattle.register.specs.Rules.{raised-with, in-ring, swept-class}
+use Rattle.register.specs.Rules.{raised-with, swept-class}
 use Rattle.register.specs.Words.{RegisterWords, RegisterReads, RegisterTurns}
 use Rattle.register.proofs.InRings.{still-words}
 

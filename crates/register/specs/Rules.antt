@@ -1,32 +1,25 @@
 -- The model's rules on one register, as the functions of this crate name them.
 use Prim.Native.Nat.{ℕ}
 use mathlib.Core.Bool.{cond}
+use mathlib.Core.List.{[]}
 use mathlib.Core.Option.{none}
 use Rattle.model.specs.declared.Class.{Class}
 use Rattle.model.specs.declared.Answer.{Answer}
 use Rattle.model.specs.declared.Answer.the-variants.{Begun, Already, SweptTo}
 use Rattle.model.specs.declared.Verdict.{Verdict}
 use Rattle.model.specs.declared.Usable.{Usable}
-use Rattle.model.specs.Numbers.{raise}
-use Rattle.model.specs.Class.{pick, swap}
-use Rattle.model.specs.Register.{Ring, Register, with-floor, with-rings, published}
+use Rattle.model.specs.Class.{pick}
+use Rattle.model.specs.Register.{Register, with-floor, in-ring, published}
 use Rattle.model.specs.Judge.{judge, judge-batch}
-use Rattle.model.specs.Dump.{drop-bucket}
+use Rattle.model.specs.Dump.{failed}
 use Rattle.model.specs.Judge.{Ask as Asked}
 use Rattle.generation.specs.declared.Dropped.{Dropped}
 use Rattle.ring.specs.Sweep.{swept-ring, swept-says, raised-by}
 use Rattle.register.specs.declared.judging.Ask.{Ask}
 
--- the floor raised to a stamp, and by what went
-abbrev pub raised : ℕ → Register → Register
-raised stamp reg = with-floor (raise (reg .floor) stamp) reg
-
+-- the floor raised by what went
 abbrev pub raised-with : Dropped → Register → Register
 raised-with d reg = with-floor (raised-by d (reg .floor)) reg
-
--- a class's ring replaced by what a function makes of it
-abbrev pub in-ring : Class → (Ring → Ring) → Register → Register
-in-ring c f reg = with-rings (swap c (f (pick c (reg .rings))) (reg .rings)) reg
 
 -- one class of a sweep
 abbrev pub swept-class : Class → ℕ → ℕ → Register → Register
@@ -39,9 +32,9 @@ begin-says reg = cond (reg .pending) Begun Already
 abbrev pub swept-answer : Usable → Register → Answer
 swept-answer u reg = SweptTo (reg .swept) (published u (reg .swept))
 
--- a generation that failed, as `failed` has it; and no floor
+-- a generation that failed, by its bucket and its newest stamp; and no floor
 abbrev pub failed-at : Class → ℕ → ℕ → Register → Register
-failed-at c b newest reg = raised newest (in-ring c (drop-bucket b) reg)
+failed-at c b newest reg = failed c (record { bucket = b; newest = newest; prints = [] }) reg
 
 abbrev pub floor-gone : Register → Register
 floor-gone reg = with-floor none reg

@@ -17,7 +17,8 @@ ghost use Rattle.register.specs.Heading.{floor-stored, floor-dumped};
 ghost use Rattle.register.specs.Rules.{failed-at, floor-gone};
 ghost use Rattle.register.specs.Words.{RegisterWords, RegisterTurns};
 
-// A generation failed: what its position holds of its bucket is dropped, and the floor rises to the dump's newest stamp.
+// A generation failed: what its position holds of its bucket is dropped, and the floor rises to the larger of the newest stamp that
+// went with it and the dump's.
 pub fn fail(part: &mut [u64], u: Usable, class: Class, bucket: Bucket, newest: u64)
     requires { ⌜ RegisterWords u (now part) ⌝ }
     ensures { λ _. ⌜ RegisterWords u (now (part .exit)) × RegisterTurns u (failed-at class (bucket .0) newest) silent (now (part .entry)) (now (part .exit)) (tt {0}) ⌝ }
@@ -25,7 +26,8 @@ pub fn fail(part: &mut [u64], u: Usable, class: Class, bucket: Bucket, newest: u
     let at = extents::ring_extent(u, class);
     let a = at.start;
     let e = at.end;
-    ring::drop_bucket(&mut part[a..e], at.slots, at.ring, bucket);
+    let went = ring::drop_bucket(&mut part[a..e], at.slots, at.ring, bucket);
+    heading::raise_by(part, went);
     heading::raise_floor(part, newest);
 }
 

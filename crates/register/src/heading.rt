@@ -13,11 +13,11 @@ ghost use lib.ListN.{length};
 ghost use Rattle.runs.specs.Turns.{silent};
 ghost use Rattle.model.specs.declared.Usable.{Usable};
 ghost use Rattle.model.specs.Numbers.{under};
-ghost use Rattle.model.specs.Register.{swept-to, published, begin as begun};
+ghost use Rattle.model.specs.Register.{raised, swept-to, published, begin as begun};
 ghost use Rattle.model.specs.RegisterWords.{read-heading};
 ghost use Rattle.model.specs.Calls.{floor-answer};
 ghost use Rattle.register.specs.Heading.{published-in, swept-in, sweep-stored, floor-raised, floor-raised-by, begun-in, begin-told};
-ghost use Rattle.register.specs.Rules.{raised, raised-with, begin-says, swept-answer};
+ghost use Rattle.register.specs.Rules.{raised-with, begin-says, swept-answer};
 ghost use Rattle.register.specs.Words.{RegisterReads, RegisterTurns};
 
 // Whether the register waits for the host's number.

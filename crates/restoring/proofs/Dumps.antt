@@ -13,10 +13,10 @@ use Rattle.model.specs.declared.Class.the-variants.{Feeders, Peers, Own}
 use Rattle.model.specs.declared.Settings.{Settings}
 use Rattle.model.specs.Settings.{usable-at}
 use Rattle.model.specs.Book.{Book}
-use Rattle.model.specs.Register.{Register}
+use Rattle.model.specs.Register.{Register, raised}
 use Rattle.model.specs.Dump.{Dumped, Dump, Holding, Restoring, words-of, hold-all, settled, restore-class, raised-to-dumped, restore, raised-to-proven, resume}
 use Rattle.model.specs.Calls.{restored, resumed, after-restored}
-use Rattle.register.specs.Rules.{floor-gone, raised}
+use Rattle.register.specs.Rules.{floor-gone}
 use Rattle.dump.specs.Walk.{dumped-at, next-at, dumped-from, class-dumped, class-end, Walks, ClassWalks}
 use Rattle.dump.proofs.Walks.{walk-next, walk-done}
 use Rattle.taking.specs.Words.{RunWords, StateTurns}

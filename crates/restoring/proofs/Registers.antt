@@ -18,7 +18,7 @@ use Rattle.model.specs.declared.Usable.{Usable}
 use Rattle.model.specs.Settings.{usable-at}
 use Rattle.model.specs.Class.{pick}
 use Rattle.model.specs.Generation.{as-read}
-use Rattle.model.specs.Register.{Register, strike}
+use Rattle.model.specs.Register.{Register, raised, strike}
 use Rattle.model.specs.Judge.{make-room}
 use Rattle.model.specs.Dump.{failed, raised-to-dumped}
 use Rattle.model.proofs.Bounds.{fit-usable, slots-small}
@@ -26,7 +26,7 @@ use Rattle.model.proofs.Judging.{read-positive}
 use Rattle.model.proofs.RingsKept.{RegisterOk, strike-ok, failed-ok, floor-ok}
 use Rattle.numbers.specs.declared.starts.RegisterExtent.{RegisterExtent}
 use Rattle.numbers.specs.RegisterAt.{RegisterAt}
-use Rattle.register.specs.Rules.{failed-at, floor-gone, raised}
+use Rattle.register.specs.Rules.{failed-at, floor-gone}
 use Rattle.register.specs.Words.{RegisterReads, RegisterTurns}
 use Rattle.taking.specs.Words.{RunWords}
 use Rattle.taking.proofs.Taking.{not-at}

@@ -8,9 +8,10 @@ use numbers::spans;
 use numbers::starts::RegisterExtent;
 ghost use Rattle.runs.specs.Turns.{silent};
 ghost use Rattle.model.specs.Settings.{usable-at};
+ghost use Rattle.model.specs.Register.{raised};
 ghost use Rattle.model.specs.Dump.{raised-to-dumped};
 ghost use Rattle.numbers.specs.RegisterAt.{RegisterAt};
-ghost use Rattle.register.specs.Rules.{failed-at, floor-gone, raised};
+ghost use Rattle.register.specs.Rules.{failed-at, floor-gone};
 ghost use Rattle.register.specs.Words.{RegisterWords, RegisterTurns};
 ghost use Rattle.taking.specs.Words.{RunWords};
 ghost use Rattle.restoring.specs.Rules.{room-in, fits-in, held-in};
@@ -48,7 +49,8 @@ pub fn hold(
     hold_in(&mut run[a..e], extent.u, h, fp)
 }
 
-// A generation failed: it is forgotten, and the floor rises to its newest stamp.
+// A generation failed: what its position holds of its bucket is dropped, and the floor rises to the larger of the newest stamp that
+// went with it and the dump's.
 pub fn fail(run: &mut [u64], s: Settings, r: usize, extent: RegisterExtent, h: Head)
     requires { ⌜ RunWords s (now run) × RegisterAt s r extent ⌝ }
     ensures { λ _. ⌜ RunWords s (now (run .exit)) × Acts s r (λ reg k. failed-at (h .class) (h .bucket .0) (h .newest) reg) (λ reg k. k) (λ reg. silent) (now (run .entry)) (now (run .exit)) (tt {0}) ⌝ }

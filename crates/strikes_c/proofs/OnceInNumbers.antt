@@ -7,15 +7,15 @@ use mathlib.Core.Option.{some}
 use lib.Dec.{eqb}
 use lib.ListN.{getD}
 use native.Mathlib.Omega.{arith}
-use Rattle.runs.proofs.Cases.{by-test, no}
+use Rattle.runs.proofs.Cases.{no}
 use Rattle.model.specs.declared.Verdict.the-variants.{New}
 use Rattle.model.specs.declared.Answer.{Answer}
-use Rattle.model.specs.declared.Answer.the-variants.{Refused, Done, Said, Yes, No, Begun, Already, Dumped, Viewed, Whole, Partly, NoFloor, FloorAt, SweptTo, Entries, Totals}
-use Rattle.model.specs.Codes.{answer-number, answer-values, went-through, partly}
+use Rattle.model.specs.declared.Answer.the-variants.{Said}
+use Rattle.model.specs.Codes.{went-through}
 use Rattle.model.specs.Calls.{Sort, Asks, Takes, Restores, Resumes, Plain, Kind, Opens, OnOne, Sets, Other, kind, reply, after}
 use Rattle.model.specs.View.{Given, words-after}
 use Rattle.model.specs.Once.{Strike, sort-asks, asks-about, sort-takes, takes, renews, remakes, remade-among}
-use Rattle.model.proofs.Choice.{or-false, and-false, true-false}
+use Rattle.model.proofs.Choice.{or-false, and-false}
 use Rattle.model.proofs.ToldApart.{zero-is-through}
 use Rattle.model.proofs.Once.{no-ticket-twice}
 use Rattle.strikes_c.specs.Out.{value-out, values-out, Returned}
@@ -55,26 +55,6 @@ is-new ws x t c asks s =
     says (x .settings) ws (x .call) t asks New (v .0) (sym (c .number) ∙ s .returned) (v .1 ∙ sym new-number)
 
 -- ---- what remakes a register ends the promise by its numbers
-partly-out : (a : Answer) (olds : List ℕ) → partly a ≡ true → (answer-number a ≡ 0) × (getD (values-out 0 a olds) 0 0 ≡ 0)
-unfolding partly answer-number value-out answer-values
-partly-out (Refused n) olds e = no (cc)
-partly-out Done olds e = no (cc)
-partly-out (Said v) olds e = no (cc)
-partly-out Yes olds e = no (cc)
-partly-out No olds e = no (cc)
-partly-out Begun olds e = no (cc)
-partly-out Already olds e = no (cc)
-partly-out (Dumped n) olds e = no (cc)
-partly-out (Viewed n) olds e = no (cc)
-partly-out (Whole n) olds e = no (cc)
-partly-out (Partly n) [] e = (refl, refl)
-partly-out (Partly n) (old ∷ olds) e = (refl, refl)
-partly-out NoFloor olds e = no (cc)
-partly-out (FloorAt f) olds e = no (cc)
-partly-out (SweptTo b ms) olds e = no (cc)
-partly-out (Entries n) olds e = no (cc)
-partly-out (Totals e h u x) olds p = no (cc)
-
 and-no : (b : Bool) → (b && false) ≡ false
 and-no true = refl
 and-no false = refl
@@ -87,18 +67,11 @@ module _ (ws : List ℕ) (x : Served) (c : Kept ws x) where
   not-through : eqb (x .returned) 0 ≡ false → went-through answer ≡ false
   not-through e = sym (zero-is-through (x .settings) ws (x .call)) ∙ ap (λ (n : ℕ). eqb n 0) (sym (c .number)) ∙ e
 
-  not-partly : (eqb (x .returned) 0 && eqb (getD (x .news) 0 0) 0) ≡ false → partly answer ≡ false
-  not-partly e =
-      by-test (partly answer)
-      (λ p. let k = partly-out answer (x .olds) p in
-      true-false {b = eqb (x .returned) 0 && eqb (getD (x .news) 0 0) 0} (rw (c .number, c .values, k .0, k .1) refl) e)
-      (λ p. p)
-
   sort-not : (d : Sort) → sort-ends d x ≡ false → renews d answer ≡ false
   unfolding sort-ends renews
   sort-not (Asks a) e = refl
   sort-not (Takes a) e = refl
-  sort-not Restores e = not-partly e
+  sort-not Restores e = refl
   sort-not Resumes e = not-through e
   sort-not Plain e = refl
 

@@ -1,5 +1,5 @@
 -- The conditions of OnceInNumbers are met (specs/OnceInNumbers), by computing. A ticket is taken. Then a take without settings is refused,
--- and its out number keeps the 0 that it held; a restore comes out Whole; the floor is read. Then the ticket is a Duplicate.
+-- and its out number keeps the 0 that it held; a restore comes out Partly and drops the ticket; the floor is read. Then the ticket is Late.
 use Prim.Native.Nat.{ℕ}
 use mathlib.Core.Path.{_≡_, refl}
 use mathlib.Core.Bool.{false}
@@ -36,23 +36,23 @@ first = serves settings start (ask taken) 0 (9 ∷ []) (0 ∷ [])
 abbrev refused : Served
 refused = serves [] (first .left) (ask taken) 1 (0 ∷ []) (0 ∷ [])
 
-abbrev one-more : Served
-one-more = serves settings (refused .left) (On 0 (Restore (flat word-bytes (0 ∷ 1 ∷ 3 ∷ 5 ∷ 1 ∷ 8 ∷ 0 ∷ 0 ∷ [])))) 0 (9 ∷ 9 ∷ []) (1 ∷ 64 ∷ [])
+abbrev partly : Served
+partly = serves settings (refused .left) (On 0 (Restore (flat word-bytes (0 ∷ 1 ∷ 3 ∷ 5 ∷ 3 ∷ 8 ∷ 9 ∷ 10 ∷ 0 ∷ 0 ∷ [])))) 0 (9 ∷ 9 ∷ []) (0 ∷ 80 ∷ [])
 
 -- it leaves the words
 abbrev reads : Served
-reads = record { settings = settings; call = On 0 Floor; returned = 0; left = one-more .left; olds = 9 ∷ 9 ∷ []; news = 0 ∷ 0 ∷ [] }
+reads = record { settings = settings; call = On 0 Floor; returned = 0; left = partly .left; olds = 9 ∷ 9 ∷ []; news = 1 ∷ 6 ∷ [] }
 
 abbrev later : Served
-later = serves settings (reads .left) (ask judged) 0 (9 ∷ []) (1 ∷ [])
+later = serves settings (reads .left) (ask judged) 0 (9 ∷ []) (2 ∷ [])
 
 abbrev between : List Served
-between = refused ∷ one-more ∷ reads ∷ []
+between = refused ∷ partly ∷ reads ∷ []
 
 abbrev ticket : Strike
 ticket = record { register = 0; print = 7; stamp = 6 }
 
-floor-read : Read settings (one-more .left) (On 0 Floor) 0 (9 ∷ 9 ∷ []) (0 ∷ 0 ∷ [])
+floor-read : Read settings (partly .left) (On 0 Floor) 0 (9 ∷ 9 ∷ []) (1 ∷ 6 ∷ [])
 unfolding compute-all value-out
 floor-read = record { number = refl; values = refl }
 
@@ -65,7 +65,7 @@ all-kept = (
     (
       record { number = refl; words = refl; values = refl },
       (
-        readers-kept settings (one-more .left) (On 0 Floor) 0 (9 ∷ 9 ∷ []) (0 ∷ 0 ∷ []) refl .by-read floor-read,
+        readers-kept settings (partly .left) (On 0 Floor) 0 (9 ∷ 9 ∷ []) (1 ∷ 6 ∷ []) refl .by-read floor-read,
         (record { number = refl; words = refl; values = refl }, tt),
       ),
     ),

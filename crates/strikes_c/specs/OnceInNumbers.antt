@@ -3,15 +3,15 @@
 --
 -- After a call of strikes_take or strikes_take_batch that returned 0 and wrote verdict 0 for a ticket (a register, a fingerprint as read
 -- and a stamp), no later call of strikes_judge, strikes_judge_batch, strikes_take or strikes_take_batch for that ticket returns 0 and
--- writes verdict 0, up to an opening that returned 0, a resume on that register that returned 0, or a restore on it that returned 0 and
--- wrote 0 for `whole`. The words at the start are any words, and calls that are refused stand in the list like the others.
+-- writes verdict 0. Two things end this, and nothing else: an opening that returned 0, and a resume on that register that returned 0. A
+-- restore ends nothing, whatever it returned and wrote for `whole`. The words at the start are any words, and calls that are refused
+-- stand in the list like the others.
 use Prim.Native.Nat.{ℕ}
 use mathlib.Core.Path.{_≡_}
 use mathlib.Core.Bool.{Bool, false, _&&_, _||_}
 use mathlib.Core.List.{List, [], _∷_, _++_}
 use mathlib.Core.Option.{some}
 use lib.Dec.{eqb}
-use lib.ListN.{getD}
 use Rattle.model.specs.Calls.{Call, Sort, Asks, Takes, Restores, Resumes, Plain, Kind, Opens, OnOne, Sets, Other, kind}
 use Rattle.model.specs.Once.{Strike, asks-about, takes}
 use Rattle.strikes_c.specs.Out.{Returned}
@@ -42,7 +42,7 @@ pub record SaysNew (x : Served) : Type 0 where
 unfoldable pub sort-ends : Sort → Served → Bool
 sort-ends (Asks a) x = false
 sort-ends (Takes a) x = false
-sort-ends Restores x = eqb (x .returned) 0 && eqb (getD (x .news) 0 0) 0
+sort-ends Restores x = false
 sort-ends Resumes x = eqb (x .returned) 0
 sort-ends Plain x = false
 

@@ -1,11 +1,14 @@
 //! The register on example tickets: what happens when a clock is stepped, a sweep forgets a ticket, and a neighbour's copy of it comes
-//! late. Each verdict is printed with its reason, which is worked out here from what the register tells of itself.
+//! late; and when a neighbour's dump does not fit beside what is held. Each verdict is printed with its reason, which is worked out here
+//! from what the register tells of itself.
 
 use std::fmt::Write as _;
 use std::process::ExitCode;
 
+use generator::dump::{Dump, Listed};
 use strikes::{
-    Deliverer, Gateway, Limits, Reading, Refusal, Settings, Start, Ticket, Verdict, Window, Windows,
+    Deliverer, Gateway, Limits, Reading, Refusal, Restored, Settings, Start, Ticket, Verdict,
+    Window, Windows,
 };
 
 /// The example of the scope paper: a meter's own copy may be 10 s old, a neighbour's 20 s.
@@ -83,6 +86,12 @@ fn tell() -> Result<String, Refusal> {
         story.take(112_100, FLOODING, fingerprint, 112_100)?;
     }
     story.take(112_200, METER, 30, 112_200)?;
+
+    story.chapter("A neighbour's dump comes, and does not fit beside what is held");
+    story.restore(112_300, 133, 112_050, &[40, 41, 42])?;
+    story.take(112_400, NEIGHBOUR, 30, 112_200)?;
+    story.line("    The register holds the ticket no more. With the dump's newest as its floor this copy would be New, and counted twice.");
+    story.take(112_500, METER, 31, 112_450)?;
     Ok(story.text)
 }
 
@@ -117,6 +126,34 @@ impl Story {
         };
         self.line(&format!(
             "    {ms:>6}  sweep: buckets before {swept} are past; {what}"
+        ));
+        Ok(())
+    }
+
+    /// A neighbour's dump: one bucket of its meters' tickets.
+    fn restore(
+        &mut self,
+        ms: u64,
+        bucket: u64,
+        newest: u64,
+        fingerprints: &[u64],
+    ) -> Result<(), Refusal> {
+        let mut dump = Dump::default();
+        dump.classes[0].push(Listed {
+            bucket,
+            newest,
+            fingerprints: fingerprints.to_vec(),
+        });
+        let outcome = match self.gateway.restore(0, &dump.bytes())? {
+            Restored::Whole(_) => "Whole".into(),
+            Restored::Partly(_) => format!(
+                "Partly; what is held in that bucket goes, and the floor rises to {}, the newest stamp of both",
+                self.gateway.floor(0)?.unwrap_or(0)
+            ),
+        };
+        let number = fingerprints.len();
+        self.line(&format!(
+            "    {ms:>6}  restore: {number} tickets in bucket {bucket}, the newest of {newest}: {outcome}"
         ));
         Ok(())
     }

@@ -210,7 +210,7 @@ pub enum Begun {
 pub enum Restored {
     /// Everything; and the bytes that the dump takes.
     Whole(u64),
-    /// All but generations that did not fit, for which the floor was raised; and the bytes that the dump takes.
+    /// All but generations that did not fit: the floor was raised to them, and to what went with them; and the bytes that the dump takes.
     Partly(u64),
 }
 

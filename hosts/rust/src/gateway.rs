@@ -282,7 +282,8 @@ impl Gateway {
         Ok(out)
     }
 
-    /// Brings back what a dump lists, charged to [`Deliverer::Restored`].
+    /// Brings back what a dump lists, charged to [`Deliverer::Restored`]. A ticket that was New before is not New again, however the
+    /// restore comes out.
     pub fn restore(&mut self, register: u64, dump: &[u8]) -> Result<Restored, Refusal> {
         raw::restore(&self.settings, &mut self.words, register, dump).map(restored)
     }

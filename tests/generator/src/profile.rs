@@ -65,6 +65,8 @@ pub struct Weights {
     pub restore_made: u64,
     /// A register dumped, and its dump restored into it two or three times.
     pub restore_own: u64,
+    /// A neighbour's dump over a ticket's bucket, and the ticket brought again.
+    pub restore_over: u64,
     pub resume: u64,
     /// A dump cut at some length, or altered in some word.
     pub damage: u64,
@@ -99,6 +101,7 @@ impl Weights {
         restore: 2,
         restore_made: 2,
         restore_own: 0,
+        restore_over: 0,
         resume: 1,
         damage: 0,
         every_cut: 0,

@@ -5,7 +5,7 @@ use crate::profile::{Clock, Levels, Profile, Spans, Weights};
 const USUAL: Profile = Profile::USUAL;
 const WEIGHTS: Weights = Weights::USUAL;
 
-pub static ALL: [Profile; 15] = [
+pub static ALL: [Profile; 16] = [
     Profile {
         name: "full",
         about: "tables that are often full: slots, places, pairs and limits of a few",
@@ -316,6 +316,19 @@ pub static ALL: [Profile; 15] = [
         },
         stretch: (40, 160),
         meant: &["restored again", "restored full", "whole", "partly"],
+        ..USUAL
+    },
+    Profile {
+        name: "neighbours",
+        about: "neighbours' dumps over live tickets, mostly too much for them, and those tickets again",
+        slots: &[2, 4, 8],
+        pairs: &[8, 16, 32],
+        weights: Weights {
+            restore_over: 40,
+            ..WEIGHTS
+        },
+        stretch: (40, 160),
+        meant: &["partly over live", "struck again", "whole", "partly"],
         ..USUAL
     },
 ];

@@ -14,7 +14,7 @@ pub struct Tally {
 }
 
 /// Everything that is counted, in the order in which it is printed.
-pub const COUNTED: [&str; 37] = [
+pub const COUNTED: [&str; 38] = [
     "opened",
     "new",
     "duplicate",
@@ -34,6 +34,7 @@ pub const COUNTED: [&str; 37] = [
     "already",
     "whole",
     "partly",
+    "partly over live",
     "restored again",
     "restored full",
     "dumped",
@@ -123,6 +124,7 @@ impl Tally {
         self.calls += 1;
         self.add(kind(call, answer, noted), 1);
         self.add("struck again", u64::from(noted.struck));
+        self.add("partly over live", u64::from(noted.dropped));
         self.add("restored again", u64::from(noted.again));
         self.add("restored full", u64::from(noted.filled));
         self.add("modest", u64::from(noted.modest));

@@ -10,6 +10,8 @@ use calls::{
 use generator::ledger::Ledger;
 use machine::Product;
 
+use super::site::TICKETS;
+
 /// A ticket is forgotten here when it can be delivered no more: this long after it was accepted, by true time.
 const REMEMBERED: u64 = 4 * 3_600_000;
 
@@ -23,8 +25,13 @@ pub struct Counts {
     pub again: u64,
     /// Those of them that came after a restart.
     pub over_restarts: u64,
+    /// Restores and resumes at a start.
     pub whole: u64,
     pub partly: u64,
+    /// Neighbours' dumps over what is held, and those that dropped some of it.
+    pub over_whole: u64,
+    pub over_partly: u64,
+    pub dropped: u64,
 }
 
 pub struct Gateway {
@@ -34,9 +41,9 @@ pub struct Gateway {
     pub list: Vec<Call>,
     /// The tickets that were accepted: when by true time, and in which run.
     accepted: HashMap<(u64, u64, u64), (u64, u64)>,
-    /// The runs of the gateway, and the first from which nothing was lost.
+    /// The runs of the gateway, and the first since which it started with its dumps.
     run: u64,
-    whole_since: u64,
+    kept_since: u64,
     pub counts: Counts,
 }
 
@@ -80,7 +87,7 @@ impl Gateway {
             list: Vec::new(),
             accepted: HashMap::new(),
             run: 0,
-            whole_since: 0,
+            kept_since: 0,
             counts: Counts::default(),
         }
     }
@@ -103,6 +110,7 @@ impl Gateway {
             (_, Answer::Refused(number)) => Err(format!("refused with {number}")),
             (Ok(noted), _) => {
                 self.counts.modest += u64::from(noted.modest);
+                self.counts.dropped += u64::from(noted.dropped);
                 Ok(answer)
             }
             _ => Err(text.unwrap_or_default()),
@@ -120,11 +128,11 @@ impl Gateway {
         Ok(verdict)
     }
 
-    /// No ticket is accepted twice, over restarts too as long as they brought everything back.
+    /// No ticket is accepted twice, over restarts too up to one without dumps.
     fn remember(&mut self, now: u64, ticket: Ticket, verdict: Verdict) -> Result<(), String> {
         let key = (ticket.register, ticket.fingerprint.max(1), ticket.stamp);
         match self.accepted.get(&key) {
-            Some((_, run)) if *run >= self.whole_since => {
+            Some((_, run)) if *run >= self.kept_since => {
                 self.counts.again += 1;
                 self.counts.over_restarts += u64::from(*run < self.run);
                 if verdict == Verdict::New {
@@ -156,7 +164,7 @@ impl Gateway {
     /// The first opening, or one after everything was lost.
     pub fn open(&mut self, start: Start) -> Result<(), String> {
         self.run += 1;
-        self.whole_since = self.run;
+        self.kept_since = self.run;
         self.opened(start)
     }
 
@@ -201,16 +209,31 @@ impl Gateway {
                 },
                 false => Call::Restore { register, bytes },
             };
-            match self.call(call)? {
-                Answer::Whole(_) => self.counts.whole += 1,
-                Answer::Partly(_) => {
-                    self.counts.partly += 1;
-                    self.whole_since = self.run;
-                }
-                other => return Err(format!("{other} is no outcome of a restore")),
+            match self.brought(call)? {
+                true => self.counts.whole += 1,
+                false => self.counts.partly += 1,
             }
         }
         Ok(())
+    }
+
+    /// A neighbour's dump into the register of tickets, over what it holds.
+    pub fn hand_over(&mut self, bytes: Vec<u8>) -> Result<(), String> {
+        let register = TICKETS;
+        match self.brought(Call::Restore { register, bytes })? {
+            true => self.counts.over_whole += 1,
+            false => self.counts.over_partly += 1,
+        }
+        Ok(())
+    }
+
+    /// Whether a restore or resume came out Whole.
+    fn brought(&mut self, call: Call) -> Result<bool, String> {
+        match self.call(call)? {
+            Answer::Whole(_) => Ok(true),
+            Answer::Partly(_) => Ok(false),
+            other => Err(format!("{other} is no outcome of a restore")),
+        }
     }
 
     pub fn begin(&mut self, number: u64) -> Result<(), String> {
@@ -233,12 +256,16 @@ pub fn disagrees(list: &[Call]) -> Option<usize> {
     let (mut product, mut ledger) = (Product::default(), Ledger::default());
     list.iter().position(|call| {
         let answer = product.run(call);
-        let refused = matches!(answer, Answer::Refused(_));
-        refused
-            || ledger
-                .saw(call, &answer, |again| product.run(again))
-                .is_err()
+        let seen = ledger.saw(call, &answer, |again| product.run(again));
+        seen.is_err()
     })
+}
+
+/// The call that is refused, where the ledger agrees.
+pub fn refused(list: &[Call]) -> Option<usize> {
+    let mut product = Product::default();
+    list.iter()
+        .position(|call| matches!(product.run(call), Answer::Refused(_)))
 }
 
 /// The form in which a deliverer's ticket is taken: batches by the batch form.

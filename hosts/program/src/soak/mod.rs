@@ -1,21 +1,23 @@
-//! Half a year of a gateway's clock: slews, steps back and forth, restarts with dumps, neighbours' late copies and floods by single
-//! meters, every call held against a ledger outside the register.
+//! Half a year of a gateway's clock: slews, steps back and forth, restarts with dumps, neighbours' late copies, neighbours' dumps over
+//! live tickets and floods by single meters, every call held against a ledger outside the register.
 //!
 //! The ledger (tests/generator) sees that no ticket is accepted twice and that no modest meter is told Full; what is accepted is also
-//! remembered over restarts, which must not make a ticket New again as long as they bring everything back.
+//! remembered over restarts, which must not make a ticket New again as long as the gateway starts with its dumps.
 
 mod clock;
 mod gateway;
+mod neighbour;
 mod picture;
 mod site;
 
 use std::process::ExitCode;
 
 use calls::call::Ticket;
-use calls::{Start, Verdict};
+use calls::{Start, Verdict, Who};
 use clock::{Clock, Correction};
-use gateway::{Gateway, disagrees, form};
+use gateway::{Gateway, disagrees, form, refused};
 use generator::random::Random;
+use neighbour::Neighbour;
 use picture::Picture;
 use site::{Event, Queue, Site, TICKETS};
 
@@ -29,6 +31,7 @@ struct Soak {
     clock: Clock,
     queue: Queue,
     site: Site,
+    neighbour: Neighbour,
     gateway: Gateway,
     picture: Picture,
     /// The clock does not judge before this time.
@@ -47,8 +50,14 @@ pub fn run(seed: u64, days: u64, file: &str) -> ExitCode {
         Ok(()) => soak.end(seed, days, file),
         Err(why) => {
             eprintln!("soak: seed {seed}, day {}: {why}", (soak.now - START) / DAY);
-            eprintln!("soak: cutting down {} calls", soak.gateway.list.len());
-            for call in calls::cut::cut(std::mem::take(&mut soak.gateway.list), disagrees) {
+            let list = std::mem::take(&mut soak.gateway.list);
+            eprintln!("soak: cutting down {} calls", list.len());
+            let fails = if disagrees(&list).is_some() {
+                disagrees
+            } else {
+                refused
+            };
+            for call in calls::cut::cut(list, fails) {
                 println!("{call}");
             }
             ExitCode::FAILURE
@@ -62,6 +71,7 @@ impl Soak {
         let site = Site::new(START, &mut queue);
         queue.push(START + 5_000, Event::Tick);
         queue.push(START + 3_600_000, Event::Correct);
+        queue.push(START + 7_200_000, Event::HandOver);
         queue.push(START + DAY, Event::Stop);
         Self {
             random: Random::new(seed),
@@ -69,6 +79,7 @@ impl Soak {
             clock: Clock::new(START),
             queue,
             site,
+            neighbour: Neighbour::default(),
             gateway: Gateway::new(),
             picture: Picture::new(START, START + days * DAY),
             unsynced: 0,
@@ -118,6 +129,7 @@ impl Soak {
                 }
             }
             Event::Stop => return self.restart(),
+            Event::HandOver => return self.hand_over(),
             // While the gateway is stopped nothing reaches it, and half of what was sent is sent again.
             Event::Deliver { .. } if now < self.stopped => {
                 if self.random.percent(50) {
@@ -132,6 +144,9 @@ impl Soak {
                 stamp,
                 who,
             } => {
+                if matches!(who, Who::Peer(_)) && register == TICKETS {
+                    self.neighbour.sees(stamp, fingerprint);
+                }
                 let flag = u64::from(now >= self.unsynced);
                 let reading = self.clock.reading(now);
                 let ticket = Ticket {
@@ -161,6 +176,18 @@ impl Soak {
         self.picture
             .clock(self.now, self.clock.offset(self.now), floor, reading);
         Ok(())
+    }
+
+    /// A neighbour's dump comes, and is restored over what the gateway holds while it runs.
+    fn hand_over(&mut self) -> Result<(), String> {
+        let next = self.now + self.random.between(1_800_000, 14_400_000);
+        self.queue.push(next, Event::HandOver);
+        let windows = gateway::settings().windows[TICKETS as usize];
+        let dump = self.neighbour.dump(self.now, &windows, &mut self.random);
+        match self.now < self.stopped {
+            true => Ok(()),
+            false => self.gateway.hand_over(dump),
+        }
     }
 
     /// A stop and a start: mostly with the dumps, now and then after they were lost.
@@ -218,6 +245,14 @@ impl Soak {
             "  tickets of modest meters: {}; told Full: 0",
             counts.modest
         );
+        println!(
+            "  neighbours' dumps over live tickets: {} whole, {} partly; dumps that dropped live tickets: {}",
+            counts.over_whole, counts.over_partly, counts.dropped
+        );
+        if counts.dropped == 0 {
+            eprintln!("soak: seed {seed}: no dump came out Partly over live tickets");
+            return ExitCode::FAILURE;
+        }
         let title = format!("{days} days, {} tickets, seed {seed}", counts.tickets);
         match std::fs::write(file, self.picture.svg(&title)) {
             Ok(()) => {

@@ -30,6 +30,8 @@ pub enum Event {
     /// A meter's sum of a minute, made by the gateway.
     Sum,
     Flood,
+    /// A neighbour hands over its dump.
+    HandOver,
     Tick,
     Correct,
     Stop,

@@ -2,8 +2,8 @@
 //! by document 01's rules, and held against every answer.
 //!
 //! - **Once.** A ticket that take answered New is never New again on its register, up to an
-//!   opening or a resume on that register that went through, or a restore on it that came out
-//!   Partly.
+//!   opening or a resume on that register that went through. A restore ends nothing, however it
+//!   came out.
 //! - **Equal part.** A party within its equal part is never turned away (`modest`).
 //! - **Entries** are counted here, draw by draw, and compared with what the machine says.
 //!
@@ -34,6 +34,8 @@ pub struct Noted {
     pub struck: bool,
     /// The equal part's promise was due.
     pub modest: bool,
+    /// A generation of a dump failed, and what was held in its bucket before it went.
+    pub dropped: bool,
     /// A restore brought nothing that was not held.
     pub again: bool,
     /// A restore brought something that was held to a generation with no room for anything else.
@@ -200,8 +202,8 @@ impl Ledger {
     }
 
     /// A dump restored or resumed: every listed fingerprint draws, and at a generation's first
-    /// failure its draws go back and its bucket is dropped. Then a struck ticket may be New again,
-    /// and after a resume, which forgets the floor.
+    /// failure its draws go back and its bucket is dropped. After a resume, which forgets the
+    /// floor, a struck ticket may be New again.
     fn restored(&mut self, register: usize, bytes: &[u8], forgets: bool, answer: &Answer) -> Seen {
         let Some((dump, read)) = dump::read(bytes) else {
             return Err("the dump is cut short".into());
@@ -211,7 +213,7 @@ impl Ledger {
             ..Noted::default()
         };
         let whole = self.enter(register, &dump, &mut noted);
-        if forgets || !whole {
+        if forgets {
             self.struck[register].clear();
         }
         let due = if whole {
@@ -232,6 +234,7 @@ impl Ledger {
                     who: calls::Who::Restored(class as u64),
                     second: table.second_of(listed.bucket),
                 };
+                let live = table.holds_some(class, listed.bucket);
                 let mut drawn = 0;
                 let fits = listed.fingerprints.iter().all(|fingerprint| {
                     if self.shares.refuses(&draw).is_some() {
@@ -251,6 +254,7 @@ impl Ledger {
                 });
                 if !fits {
                     whole = false;
+                    noted.dropped |= live;
                     (0..drawn).for_each(|_| self.shares.give_back(&draw));
                     table.drop_bucket(class, listed.bucket);
                 }

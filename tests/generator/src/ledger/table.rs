@@ -86,6 +86,12 @@ impl Table {
         held.is_some_and(|held| held.bucket != bucket)
     }
 
+    /// Whether the class holds anything in this bucket.
+    pub fn holds_some(&self, class: usize, bucket: u64) -> bool {
+        let held = self.rings[class].get(&self.position(bucket));
+        held.is_some_and(|held| held.bucket == bucket)
+    }
+
     /// Whether the class holds the fingerprint in this bucket.
     pub fn knows(&self, class: usize, bucket: u64, fingerprint: u64) -> bool {
         let held = self.rings[class].get(&self.position(bucket));
@@ -120,11 +126,8 @@ impl Table {
     }
 
     pub fn drop_bucket(&mut self, class: usize, bucket: u64) {
-        let position = self.position(bucket);
-        if self.rings[class]
-            .get(&position)
-            .is_some_and(|held| held.bucket == bucket)
-        {
+        if self.holds_some(class, bucket) {
+            let position = self.position(bucket);
             self.rings[class].remove(&position);
         }
     }

@@ -1,6 +1,7 @@
 //! Dumps taken, made up and damaged.
 
-use calls::Call;
+use calls::call::Ticket;
+use calls::{Call, Form, Look, Who};
 
 use super::Scene;
 use crate::damage;
@@ -118,6 +119,47 @@ impl Scene {
                 length: None,
             });
         }
+    }
+
+    /// A neighbour's dump over the bucket of a ticket brought before, mostly too much for it and with an older newest stamp; then
+    /// the ticket again. A dump taken earlier while there is no ticket.
+    pub(super) fn restore_over(&mut self) -> Call {
+        if self.tickets.is_empty() {
+            return self.restore();
+        }
+        let at = self.random.below(self.tickets.len() as u64) as usize;
+        let ticket = self.tickets[at];
+        let bytes = self.neighbours_dump(&ticket);
+        self.ahead.push_back(Call::Look(Look::Floor {
+            register: ticket.register,
+        }));
+        self.ahead.push_back(Call::Ask {
+            form: Form::Take,
+            ticket,
+        });
+        Call::Restore {
+            register: ticket.register,
+            bytes,
+        }
+    }
+
+    /// One generation, that of the ticket's bucket in its deliverer's class.
+    fn neighbours_dump(&mut self, ticket: &Ticket) -> Vec<u8> {
+        let windows = self.settings.windows[ticket.register as usize];
+        let newest = match self.random.percent(80) {
+            true => ticket.stamp.saturating_sub(self.random.below(2_000)),
+            false => self.near(ticket.stamp, 2_000),
+        };
+        let number = self.random.below(windows.slots + 1);
+        let listed = Listed {
+            bucket: windows.bucket_of(ticket.stamp),
+            newest,
+            fingerprints: (0..number).map(|_| self.fingerprint()).collect(),
+        };
+        let mut dump = Dump::default();
+        let class = ticket.who.listed().map_or(0, Who::class);
+        dump.classes[class].push(listed);
+        dump.bytes()
     }
 
     pub(super) fn proven(&mut self) -> Option<u64> {

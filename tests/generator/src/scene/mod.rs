@@ -120,6 +120,7 @@ impl Scene {
             restore,
             restore_made,
             restore_own,
+            restore_over,
             resume,
             damage,
             every_cut,
@@ -128,7 +129,7 @@ impl Scene {
             unfit,
             view,
         } = self.profile.weights;
-        let acts: [(u64, Act); 24] = [
+        let acts: [(u64, Act); 25] = [
             (take, |scene| scene.ask(Form::Take)),
             (take_batch, |scene| scene.ask(Form::TakeBatch)),
             (judge, |scene| scene.ask(Form::Judge)),
@@ -149,6 +150,7 @@ impl Scene {
             (restore, Self::restore),
             (restore_made, Self::restore_made),
             (restore_own, Self::restore_own),
+            (restore_over, Self::restore_over),
             (resume, Self::resume),
             (damage, Self::damaged),
             (every_cut, Self::every_cut),

@@ -1,5 +1,5 @@
-use Rattle.register.proofs.Forgets.{fail-turns, fail-words}
-use Rattle.register.proofs.InRings.{ring-asks, ring-turns}
+use Rattle.register.proofs.Forgets.{fails}
+use Rattle.register.proofs.InRings.{ring-asks}
 use borrow.Author.Needs.{needs}
 use Rattle.register.proofs.forgetting.fail.Statement.{statement}
 use Rattle.register.proofs.forgetting.fail.Tie as tie
@@ -22,6 +22,9 @@ part-drop-bucket-end c = search needs
 drop-bucket-requires : tie.Need-drop-bucket-requires
 drop-bucket-requires c κs = let s = c .before .before .before in ring-asks _ _ _ (c .before .ring-extent .ensures) (s .args .part .now) (s .pre)
 
+raise-by-requires : tie.Need-raise-by-requires
+raise-by-requires c κs = search needs
+
 raise-floor-requires : tie.Need-raise-floor-requires
 raise-floor-requires c κs = search needs
 
@@ -30,12 +33,12 @@ same-length c = search needs
 
 returns : tie.Need-returns
 returns c =
-    let d = c .before .before .before .before .before .before in
-    let raise-floor = c .before .before .raise-floor in
-    let s = d .before .before .before .before in
-    let t = fail-turns (s .args .u) (s .args .class) (s .args .bucket .0) (s .args .newest) _ _ _ _
-    (ring-turns _ _ _ (d .before .before .ring-extent .ensures) (d .drop-bucket .ensures .1)) (raise-floor .ensures .1 (s .args .u)) in
-    (fail-words (s .args .u) (s .args .class) (s .args .bucket .0) (s .args .newest) _ _ t (s .pre), t)
+    let floor = c .before .before in
+    let by = floor .before .before .before .before in
+    let drop = by .before .before .before .before in
+    let s = drop .before .before .before .before in
+    fails (s .args .u) (s .args .class) (s .args .bucket .0) (s .args .newest) _ (drop .before .before .ring-extent .ensures) _ _ _ _ _ (s .pre)
+    (drop .drop-bucket .ensures .1) (by .raise-by .ensures .1) (floor .raise-floor .ensures .1)
 
 pub fail-spec : {M : Type 1} → statement M
 fail-spec =
@@ -47,6 +50,7 @@ fail-spec =
     part-drop-bucket-start
     part-drop-bucket-end
     drop-bucket-requires
+    raise-by-requires
     raise-floor-requires
     same-length
     returns)
