@@ -73,6 +73,11 @@ FAULTS = {
         (GENERATION, "    grow(part, known);\n    enter(",
          "    if part[Generation::BUCKET] != bucket.0 {\n        drop_all(part);\n    }\n    grow(part, known);\n    enter("),
     ],
+    # A number of a dump is read with two of its bytes exchanged.
+    "bytes-exchanged": [
+        ("dump/src/octets.rt", "0x100_0000 * wide(bytes[at + 3])", "0x100_0000 * wide(bytes[at + 4])"),
+        ("dump/src/octets.rt", "0x1_0000_0000 * wide(bytes[at + 4])", "0x1_0000_0000 * wide(bytes[at + 3])"),
+    ],
     "ahead-for-late": [
         ("register/src/judging.rt", "Verdict::Late => late_or_ahead(past),", "Verdict::Late => late_or_ahead(true),"),
     ],

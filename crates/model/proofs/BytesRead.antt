@@ -10,6 +10,7 @@ use Rattle.runs.proofs.Chunks.{length-flat}
 use Rattle.model.specs.Numbers.{top64}
 use Rattle.model.specs.RoundTrip.{Words64}
 use Rattle.model.specs.Dump.{number-of, bytes-of, word-bytes, words-in, words-of}
+use Rattle.model.specs.Octets.{ReadsBack}
 
 -- one more than the largest number of k bytes
 abbrev past : ℕ → ℕ
@@ -21,8 +22,8 @@ unfolding number-of bytes-of
 number-back zero n h = omega arith
 number-back (suc k) n h = let e = number-back k (n / 256) (omega arith) in omega arith
 
-pub word-back : (n : ℕ) → n ≤ top64 → number-of (word-bytes n) ≡ n
-word-back n h = number-back 8 n (omega arith)
+pub reads-back : ReadsBack
+reads-back n h = number-back 8 n (omega arith)
 
 bytes-length : (k n : ℕ) → length (bytes-of k n) ≡ k
 unfolding bytes-of
@@ -38,7 +39,7 @@ bytes-long ws = let e = length-flat word-bytes 8 word-length ws in omega arith
 
 words-on : (w n : ℕ) (bs : List ℕ) → w ≤ top64 → words-in (suc n) (word-bytes w ++ bs) ≡ w ∷ words-in n bs
 unfolding words-in
-words-on w n bs h = rw (take-at (word-bytes w) bs 8 (word-length w), drop-at (word-bytes w) bs 8 (word-length w), word-back w h)
+words-on w n bs h = rw (take-at (word-bytes w) bs 8 (word-length w), drop-at (word-bytes w) bs 8 (word-length w), reads-back w h)
 
 words-back : (ws more : List ℕ) (n : ℕ) → Words64 ws → words-in (length ws + n) (flat word-bytes ws ++ more) ≡ ws ++ words-in n more
 unfolding flat

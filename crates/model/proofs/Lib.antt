@@ -33,6 +33,7 @@ pub mod SharesKept
 pub mod EqualPart
 pub mod EqualPartWords
 pub mod BytesRead
+pub mod Octets
 pub mod DumpRead
 pub mod Holding
 pub mod Filling

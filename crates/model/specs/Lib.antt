@@ -49,3 +49,4 @@ pub mod WorkedOnWords
 pub mod ZeroIsThrough
 pub mod VerdictsApart
 pub mod TicketsGetVerdicts
+pub mod Octets
