@@ -57,7 +57,8 @@
 #define STRIKES_NEW 0
 /* Held in the bucket of its stamp. */
 #define STRIKES_DUPLICATE 1
-/* At or below the floor, or outside the deliverer's window; of a take also: its position is held by another bucket. */
+/* At or below the floor, or outside the deliverer's window; of a take also: its position is held by another bucket; never for its
+   position on a register opened here, not restored or resumed since, whose takes' readings never fall. */
 #define STRIKES_LATE 2
 /* Late, and past the window's front. Of the batch forms only. */
 #define STRIKES_AHEAD 3

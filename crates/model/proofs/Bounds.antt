@@ -1,5 +1,5 @@
 -- What fit settings say of one register and of the book. Assumes nothing.
-use Prim.Native.Nat.{ℕ, zero, suc, _≤_, _<_}
+use Prim.Native.Nat.{ℕ, zero, suc, _+_, _≤_, _<_}
 use native.Mathlib.Omega.{arith}
 use mathlib.Core.Path.{_≡_}
 use mathlib.Core.Bool.{Bool, true, false}
@@ -11,7 +11,7 @@ use Rattle.model.specs.declared.Shares.{Shares}
 use Rattle.model.specs.declared.Settings.{Settings}
 use Rattle.runs.proofs.Cases.{by-test, both-true, each-true, no}
 use Rattle.model.specs.Numbers.{between, cap64}
-use Rattle.model.specs.Settings.{ring-of, power-of-two, window-fit, usable-fit, shares-fit, usable-at, fit-at, settings-fit}
+use Rattle.model.specs.Settings.{retained, ahead, ring-of, power-of-two, window-fit, usable-fit, shares-fit, usable-at, fit-at, settings-fit}
 use Rattle.model.proofs.Choice.{or-cases, true-false}
 use Rattle.model.proofs.Words.{registers≤4}
 
@@ -45,12 +45,25 @@ power-small n t =
 pub record UsableBounds (u : Usable) : Type 0 where
   pub slots : u .slots ≤ 1_024
   pub ring : ring-of u ≤ 256
+  pub some-bucket : 0 < u .bucket
+  pub short : retained u + ahead u ≤ 7_200_000
 
 pub usable-bounds : (u : Usable) → usable-fit u ≡ true → UsableBounds u
-unfolding usable-fit
+unfolding usable-fit window-fit retained ahead
 usable-bounds u t =
     let p = each-true (window-fit (u .origin)) (window-fit (u .copy) ∷ between 1 60_000 (u .bucket) ∷ power-of-two (u .slots) ∷ leb (ring-of u) 256 ∷ []) t in
-    record { slots = power-small (u .slots) (p .1 .1 .1 .0); ring = leb-true (ring-of u) 256 (p .1 .1 .1 .1) }
+    let o = both-true (leb (u .origin .behind) 3_600_000) (leb (u .origin .ahead) 3_600_000) (p .0) in
+    let c = both-true (leb (u .copy .behind) 3_600_000) (leb (u .copy .ahead) 3_600_000) (p .1 .0) in
+    let ob = leb-true (u .origin .behind) 3_600_000 (o .0) in
+    let oa = leb-true (u .origin .ahead) 3_600_000 (o .1) in
+    let cb = leb-true (u .copy .behind) 3_600_000 (c .0) in
+    let ca = leb-true (u .copy .ahead) 3_600_000 (c .1) in
+    record {
+      slots = power-small (u .slots) (p .1 .1 .1 .0);
+      ring = leb-true (ring-of u) 256 (p .1 .1 .1 .1);
+      some-bucket = leb-true 1 (u .bucket) (both-true (leb 1 (u .bucket)) (leb (u .bucket) 60_000) (p .1 .1 .0) .0);
+      short = omega (arith, ob, oa, cb, ca);
+    }
 
 pub slots-small : (u : Usable) → usable-fit u ≡ true → u .slots ≤ 1_024
 slots-small u t = usable-bounds u t .slots

@@ -61,7 +61,7 @@ read-under x ws t st e P p =
     subst (P (x .settings)) (t .holds) (subst (λ (s : Settings). P s (held-in s ws)) e p)
 
 -- ---- a call that went through found its words sound; a call that did not left them
-vetted-before : (st ws : List ℕ) (call : Call) → is-open call ≡ false → went-through (reply st ws call) ≡ true → Vetted st ws
+pub vetted-before : (st ws : List ℕ) (call : Call) → is-open call ≡ false → went-through (reply st ws call) ≡ true → Vetted st ws
 vetted-before st ws call shut through =
     let e = entered st ws call (through-zero st ws call through) in record { fit = e .fit; long = e .long; sound = e .vets shut }
 
@@ -81,11 +81,11 @@ unfolding refused unfit codes-fit deed-fits unsound is-open no-such-register own
 as-refused m st ws r a = refl
 
 -- judge answers New: nothing refuses, and the rules judge it New
-record JudgedNew (st ws : List ℕ) (r : ℕ) (a : Asking) : Type 0 where
-  passed : eqb (refused st ws (On r (Ticket judged a))) 0 ≡ true
-  new : judge (usable-at (settings-of st) r) (register-at r (held-in (settings-of st) ws)) (ask-of a) .says ≡ New
+pub record JudgedNew (st ws : List ℕ) (r : ℕ) (a : Asking) : Type 0 where
+  pub passed : eqb (refused st ws (On r (Ticket judged a))) 0 ≡ true
+  pub new : judge (usable-at (settings-of st) r) (register-at r (held-in (settings-of st) ws)) (ask-of a) .says ≡ New
 
-judged-new : (st ws : List ℕ) (r : ℕ) (a : Asking) → reply st ws (On r (Ticket judged a)) ≡ Said New → JudgedNew st ws r a
+pub judged-new : (st ws : List ℕ) (r : ℕ) (a : Asking) → reply st ws (On r (Ticket judged a)) ≡ Said New → JudgedNew st ws r a
 unfolding reply step done-on asked after-judged
 judged-new st ws r a e =
     by-test (eqb (refused st ws (On r (Ticket judged a))) 0)
@@ -95,12 +95,12 @@ judged-new st ws r a e =
     (λ t. let q : Refused (refused st ws (On r (Ticket judged a))) ≡ Said New = rw t at e in no (cc))
 
 module _ (st ws : List ℕ) (r : ℕ) (a : Asking) (passed : eqb (refused st ws (On r (Ticket judged a))) 0 ≡ true) where
-  take-says : reply st ws (On r (Ticket taken a))
+  pub take-says : reply st ws (On r (Ticket taken a))
       ≡ Said (take (usable-at (settings-of st) r) (settings-of st .shares) (register-at r (held-in (settings-of st) ws)) (held-in (settings-of st) ws .book) (ask-of a) .says)
   unfolding reply step done-on asked after-taken
   take-says = rw (as-refused taken st ws r a, passed)
 
-  take-batch-says : reply st ws (On r (Ticket taken-batch a))
+  pub take-batch-says : reply st ws (On r (Ticket taken-batch a))
       ≡ Said (take-batch (usable-at (settings-of st) r) (settings-of st .shares) (register-at r (held-in (settings-of st) ws)) (held-in (settings-of st) ws .book) (ask-of a) .says)
   unfolding reply step done-on asked after-taken
   take-batch-says = rw (as-refused taken-batch st ws r a, passed)

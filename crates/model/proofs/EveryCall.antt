@@ -20,7 +20,7 @@ use Rattle.model.specs.Words.{State}
 use Rattle.model.specs.Codes.{went-through}
 use Rattle.model.specs.Calls.{Manner, judged, judged-batch, taken, taken-batch, Deed, Ticket, ContainsHash, Begin, Sweep, DumpTo, Restore, Resume, Floor, Pending}
 use Rattle.model.specs.Calls.{SweptBucket, ViewRegister, ViewDeliverer, Call, Open, On, Expire, SetLimits, Close, HeldBy, ClassTotals, no-register, register-at, opened, yes-no, floor-answer}
-use Rattle.model.specs.Calls.{ask-of, proven-of, asked, after-judged, after-taken, after-restored, restored, resumed, least-published, class-totals, opens, beyond}
+use Rattle.model.specs.Calls.{Asking, manner-sort, ask-of, reading-of-ask, proven-of, asked, after-judged, after-taken, after-restored, restored, resumed, least-published, class-totals, opens, beyond}
 use Rattle.model.specs.Calls.{deed-fits, deed-refusals, done-on, meaning, codes-fit}
 use Rattle.model.specs.Refusals.{in-order}
 use Rattle.model.specs.Once.{asks-about, takes, remakes}
@@ -28,6 +28,7 @@ use Rattle.model.specs.TicketsGetVerdicts.{Verdicts}
 use Rattle.model.specs.EqualPart.{kind-stays}
 use Rattle.model.specs.RoundTrip.{reaches}
 use Rattle.model.specs.Floors.{forgets}
+use Rattle.model.specs.Steady.{sort-taking, kind-taking, disturbs}
 use Rattle.model.proofs.Choice.{and-false, true-false}
 use Rattle.model.proofs.Struck.{struck-sweep}
 use Rattle.model.proofs.RingsKept.{sweep-ok, begin-ok}
@@ -39,6 +40,7 @@ use Rattle.model.proofs.Guarded.{put-here, asked-keeps, asked-silent, r
 use Rattle.model.proofs.EqualPart.{limits-same, asked-bounded, restored-bounded, resumed-bounded}
 use Rattle.model.proofs.Misreadings.{same}
 use Rattle.model.proofs.FloorLaws.{put-stands, sweep-stands, begin-stands, asked-stands, restored-stands}
+use Rattle.model.proofs.SteadyKept.{left-fresh, on-one, asked-fresh, begin-on-fresh, sweep-on-fresh}
 use Rattle.model.proofs.Lawful.{none-some, Lawful, unasked, calm, on-book, reader}
 
 -- ---- an answer of its own is no refusal
@@ -89,6 +91,14 @@ asked-verdict s r judged-batch a t = record { verdict = _; said = refl }
 asked-verdict s r taken a t = record { verdict = _; said = refl }
 asked-verdict s r taken-batch a t = record { verdict = _; said = refl }
 
+-- ---- a take's reading
+asked-brings : (m : Manner) (a : Asking) (ms : ℕ) → sort-taking (manner-sort m a) ≡ some ms → reading-of-ask (ask-of a) ≡ some ms
+unfolding sort-taking manner-sort
+asked-brings judged a ms e = absurd (none-some e)
+asked-brings judged-batch a ms e = absurd (none-some e)
+asked-brings taken a ms e = e
+asked-brings taken-batch a ms e = e
+
 -- ---- the registers that a call is not on
 module _ (s : Settings) (q r : ℕ) (other : q ≡ r → ⊥) where
   elsewhere : (reg : Register) (t : State) → getD (set (t .registers) r reg) q no-register ≡ register-at q t
@@ -111,16 +121,16 @@ module _ (s : Settings) (q r : ℕ) (other : q ≡ r → ⊥) where
   resumed-aside t p none = refl
   resumed-aside t p (some d) = elsewhere _ t
 
--- what forgets a floor on register r leaves those of the others
-forgets-other : (q r : ℕ) → (eqb q r && true) ≡ false → q ≡ r → ⊥
-forgets-other q r e = and-false (eqb q r) true e (λ n. eqb-false q r n) (λ n. true-false refl n)
+-- what is so on register r alone, and not of register q
+other-than : (q r : ℕ) → (eqb q r && true) ≡ false → q ≡ r → ⊥
+other-than q r e = and-false (eqb q r) true e (λ n. eqb-false q r n) (λ n. true-false refl n)
 
 low : (s : Settings) (r : ℕ) → leb (s .registers) r ≡ false → r < s .registers
 low s r e = leb-false (s .registers) r e
 
 -- ---- every deed
 deed-lawful : (r : ℕ) (d : Deed) → Lawful (meaning (On r d))
-unfolding meaning deed-fits deed-refusals done-on beyond kind-stays reaches forgets remakes asks-about takes unasked went-through opens in-order
+unfolding meaning deed-fits deed-refusals done-on beyond kind-stays reaches forgets kind-taking disturbs remakes asks-about takes unasked went-through opens in-order
 deed-lawful r (Ticket m a) = record {
   through = λ s t. asked-through s r m (ask-of a) t;
   in-order = λ s t. refl;
@@ -136,6 +146,9 @@ deed-lawful r (Ticket m a) = record {
   verdicts = λ s t k e. asked-verdict s r m (ask-of a) t;
   reads = λ e. no (cc);
   floors = λ s t q e f h. asked-stands s r t q f h m (ask-of a);
+  brought = λ ms e. asked-brings m a ms e;
+  fresh = λ s t q fit h ok e.
+      on-one s fit q h t (λ j. meaning (On j (Ticket m a))) r (λ o. asked-aside s q r o m (ask-of a) t) (asked-fresh s fit q h t ok m a);
 }
 deed-lawful r (ContainsHash fp) =
     reader refl (λ s t. refl) (λ s t. yes-no-through (any-class (holds-any (as-read fp)) (register-at r t .rings))) (λ s t. refl)
@@ -150,6 +163,8 @@ deed-lawful r (Begin number) = calm (record {
   keeps = λ s k x pos fit h ok struck e.
       put-here s k pos r x (there s r x ok (low s r h)) struck _ (λ b fp n z g. begin-keeps b fp n number (register-at r x) g);
   floors = λ s t q e f h. put-stands r _ t q f (λ k. begin-stands number (register-at r t) f k) h;
+  fresh = λ s t q fit h ok e.
+      on-one s fit q h t (λ j. meaning (On j (Begin number))) r (λ o. elsewhere s q r o _ t) (begin-on-fresh s fit q h t ok number);
 })
 deed-lawful r (Sweep ms) = calm (record {
   unasked = refl;
@@ -162,6 +177,8 @@ deed-lawful r (Sweep ms) = calm (record {
   keeps = λ s k x pos fit h ok struck e.
       put-here s k pos r x (there s r x ok (low s r h)) struck _ (λ b fp n z g. struck-sweep b fp n (usable-at s r) ms (register-at r x) g);
   floors = λ s t q e f h. put-stands r _ t q f (λ k. sweep-stands (usable-at s r) ms (register-at r t) f k) h;
+  fresh = λ s t q fit h ok e.
+      on-one s fit q h t (λ j. meaning (On j (Sweep ms))) r (λ o. elsewhere s q r o _ t) (sweep-on-fresh s fit q h t ok ms);
 })
 deed-lawful r (DumpTo out) = reader refl (λ s t. refl) (λ s t. refl) (λ s t. refl)
 deed-lawful r (Restore bytes) = calm (record {
@@ -173,6 +190,7 @@ deed-lawful r (Restore bytes) = calm (record {
   aside = λ s q t e. restored-aside s q r (eqb-false q r e) t (read-dump bytes);
   keeps = λ s k x pos fit h ok struck e. restored-keeps s k pos fit r x (low s r h) ok struck (read-dump bytes);
   floors = λ s t q e f h. restored-stands s r t q f h (read-dump bytes);
+  fresh = λ s t q fit h ok e. left-fresh s fit q h t (meaning (On r (Restore bytes))) (restored-aside s q r (other-than q r e) t (read-dump bytes));
 })
 deed-lawful r (Resume bytes flag floor) = calm (record {
   unasked = refl;
@@ -183,7 +201,9 @@ deed-lawful r (Resume bytes flag floor) = calm (record {
   aside = λ s q t e. resumed-aside s q r (eqb-false q r e) t (proven-of flag floor) (read-dump bytes);
   keeps = λ s k x pos fit h ok struck e. resumed-keeps s k pos fit r x (low s r h) ok struck (proven-of flag floor) (read-dump bytes) e;
   floors = λ s t q e f h.
-      same f _ (ap (λ (x : Register). x .floor) (resumed-aside s q r (forgets-other q r e) t (proven-of flag floor) (read-dump bytes)) ∙ h);
+      same f _ (ap (λ (x : Register). x .floor) (resumed-aside s q r (other-than q r e) t (proven-of flag floor) (read-dump bytes)) ∙ h);
+  fresh = λ s t q fit h ok e.
+      left-fresh s fit q h t (meaning (On r (Resume bytes flag floor))) (resumed-aside s q r (other-than q r e) t (proven-of flag floor) (read-dump bytes));
 })
 deed-lawful r Floor = reader refl (λ s t. refl) (λ s t. floor-through (register-at r t .floor)) (λ s t. refl)
 deed-lawful r Pending = reader refl (λ s t. refl) (λ s t. yes-no-through (register-at r t .pending)) (λ s t. refl)
@@ -192,7 +212,7 @@ deed-lawful r (ViewRegister out) = reader refl (λ s t. refl) (λ s t. refl) (λ
 
 -- ---- every call
 pub lawful : (call : Call) → Lawful (meaning call)
-unfolding meaning beyond kind-stays reaches forgets remakes asks-about takes unasked went-through opens opened class-totals codes-fit in-order
+unfolding meaning beyond kind-stays reaches forgets kind-taking disturbs remakes asks-about takes unasked went-through opens opened class-totals codes-fit in-order
 lawful (Open limits starts) = record {
   through = λ s t. refl;
   in-order = λ s t. refl;
@@ -205,6 +225,8 @@ lawful (Open limits starts) = record {
   verdicts = λ s t k e. absurd (none-some e);
   reads = λ e. no (cc);
   floors = λ s t q e. true-false refl e;
+  brought = λ ms e. absurd (none-some e);
+  fresh = λ s t q fit h ok e. true-false refl e;
 }
 lawful (On r d) = deed-lawful r d
 lawful (Expire ms) = on-book (record {

@@ -59,7 +59,7 @@ not-new u reg a (below-floor p) v =
     (λ e. split-if (λ (x : Verdict). x ≡ New → ⊥) (under (a .stamp) (reg .floor) || not (in-window (window-for u (a .who)) (a .stamp) (a .ms))) (λ d z. no (cc))
     (λ d. true-false (or-left (under (a .stamp) (reg .floor)) (not (in-window (window-for u (a .who)) (a .stamp) (a .ms))) p) d)) v
 
-ahead-new : (p : Bool) (v : Verdict) → ahead-for p v ≡ New → v ≡ New
+pub ahead-new : (p : Bool) (v : Verdict) → ahead-for p v ≡ New → v ≡ New
 unfolding ahead-for
 ahead-new p New e = refl
 ahead-new p Duplicate e = e
@@ -105,7 +105,7 @@ module _ (u : Usable) (b : Shares) (a : Ask) (k : Book) (reg : Register) where
   abbrev room : Room
   room = make-room (u .slots) bucket print (pick class (reg .rings))
 
-  says-new : (v : Verdict) → take-judged u b a k reg v .says ≡ New → v ≡ New
+  pub says-new : (v : Verdict) → take-judged u b a k reg v .says ≡ New → v ≡ New
   unfolding take-judged
   says-new New e = refl
   says-new Duplicate e = e

@@ -24,10 +24,12 @@ use Rattle.model.specs.EqualPart.{kind-stays}
 use Rattle.model.specs.RoundTrip.{reaches}
 use Rattle.model.specs.Misreadings.{NoLower}
 use Rattle.model.specs.Floors.{forgets}
+use Rattle.model.specs.Steady.{kind-taking, disturbs}
 use Rattle.model.proofs.Choice.{true-false}
 use Rattle.model.proofs.Struck.{Struck}
 use Rattle.model.proofs.SharesKept.{Bounded}
 use Rattle.model.proofs.Misreadings.{same}
+use Rattle.model.proofs.SteadyKept.{FreshKept, left-fresh}
 
 -- under these settings the state has struck the ticket
 abbrev pub StruckIn : Settings → Strike → State → Type 0
@@ -75,6 +77,11 @@ pub record Lawful (m : Meaning) : Type 0 where
   pub reads : m .reads ≡ true → Reads m
   -- it lowers no floor, unless it opens, or resumes on that register
   pub floors : (s : Settings) (t : State) (q : ℕ) → forgets q (m .kind) ≡ false → FloorKept m s t q
+  -- a take's reading is one by which it sweeps
+  pub brought : (ms : ℕ) → kind-taking (m .kind) ≡ some ms → m .reading ≡ some ms
+  -- it keeps what a take needs not to be Late for its position, unless it opens, or restores or resumes on that register
+  pub fresh : (s : Settings) (t : State) (q : ℕ) → settings-fit s ≡ true → q < s .registers → state-form s .Ok t → disturbs q (m .kind) ≡ false
+      → FreshKept m s t q
 
 -- ---- kinds that ask about no ticket and open nothing
 unfoldable pub unasked : Kind → Bool
@@ -90,19 +97,20 @@ unasked Other = true
 pub record AsksNothing (k : Kind) : Type 0 where
   pub asks : asks-about k ≡ none
   pub takes : takes k ≡ none
+  pub taking : kind-taking k ≡ none
   pub shut : opens k ≡ false
   pub opens-none : (limits starts : List ℕ) → k ≡ Opens limits starts → ⊥
 
 asks-nothing : (k : Kind) → unasked k ≡ true → AsksNothing k
-unfolding unasked asks-about takes opens
+unfolding unasked asks-about takes kind-taking opens
 asks-nothing (Opens limits starts) e = no (cc)
 asks-nothing (OnOne r (Asks a)) e = no (cc)
 asks-nothing (OnOne r (Takes a)) e = no (cc)
-asks-nothing (OnOne r Restores) e = record { asks = refl; takes = refl; shut = refl; opens-none = λ l s i. no (cc) }
-asks-nothing (OnOne r Resumes) e = record { asks = refl; takes = refl; shut = refl; opens-none = λ l s i. no (cc) }
-asks-nothing (OnOne r Plain) e = record { asks = refl; takes = refl; shut = refl; opens-none = λ l s i. no (cc) }
-asks-nothing (Sets limits) e = record { asks = refl; takes = refl; shut = refl; opens-none = λ l s i. no (cc) }
-asks-nothing Other e = record { asks = refl; takes = refl; shut = refl; opens-none = λ l s i. no (cc) }
+asks-nothing (OnOne r Restores) e = record { asks = refl; takes = refl; taking = refl; shut = refl; opens-none = λ l s i. no (cc) }
+asks-nothing (OnOne r Resumes) e = record { asks = refl; takes = refl; taking = refl; shut = refl; opens-none = λ l s i. no (cc) }
+asks-nothing (OnOne r Plain) e = record { asks = refl; takes = refl; taking = refl; shut = refl; opens-none = λ l s i. no (cc) }
+asks-nothing (Sets limits) e = record { asks = refl; takes = refl; taking = refl; shut = refl; opens-none = λ l s i. no (cc) }
+asks-nothing Other e = record { asks = refl; takes = refl; taking = refl; shut = refl; opens-none = λ l s i. no (cc) }
 
 -- what is left to show of such a call that does more than read
 pub record Calm (m : Meaning) : Type 0 where
@@ -117,6 +125,8 @@ pub record Calm (m : Meaning) : Type 0 where
   pub keeps : (s : Settings) (k : Strike) (x : State) → 0 < k .print → settings-fit s ≡ true → beyond s (m .kind) ≡ false → state-form s .Ok x
       → StruckIn s k x → remakes (k .register) (m .kind) (m .does s x .answer) ≡ false → StruckIn s k (m .does s x .state)
   pub floors : (s : Settings) (t : State) (q : ℕ) → forgets q (m .kind) ≡ false → FloorKept m s t q
+  pub fresh : (s : Settings) (t : State) (q : ℕ) → settings-fit s ≡ true → q < s .registers → state-form s .Ok t → disturbs q (m .kind) ≡ false
+      → FreshKept m s t q
 
 pub calm : {m : Meaning} → Calm m → Lawful m
 calm {m} c =
@@ -135,6 +145,8 @@ calm {m} c =
       verdicts = λ s t k e. absurd (none-some (sym (q .asks) ∙ e));
       reads = λ e. true-false e (not-true (m .reads) (b .1));
       floors = c .floors;
+      brought = λ ms e. absurd (none-some (sym (q .taking) ∙ e));
+      fresh = c .fresh;
     }
 
 -- ---- a call that leaves the registers: what it does is to the book
@@ -160,6 +172,7 @@ on-book {m} c = calm (record {
       subst (λ (l : List Register). Struck (bucket-of (usable-at s (k .register)) (k .stamp)) (k .print) (k .stamp) (getD l (k .register) no-register))
       (sym (c .stays s x)) struck;
   floors = λ s t q e f h. same f _ (ap (λ (l : List Register). getD l q no-register .floor) (c .stays s t) ∙ h);
+  fresh = λ s t q fit low ok e. left-fresh s fit q low t m (ap (λ (l : List Register). getD l q no-register) (c .stays s t));
 })
 
 -- ---- a call that leaves the state: all that is left of it is what it answers, and its own refusals
@@ -182,4 +195,6 @@ reader {m} unasked leaves through in-order =
       verdicts = λ s t k e. absurd (none-some (sym (q .asks) ∙ e));
       reads = λ e. record { shut = q .shut; stays = leaves };
       floors = λ s t q e f h. same f _ (ap (λ (x : State). register-at q x .floor) (leaves s t) ∙ h);
+      brought = λ ms e. absurd (none-some (sym (q .taking) ∙ e));
+      fresh = λ s t q fit low ok e. left-fresh s fit q low t m (ap (register-at q) (leaves s t));
     }

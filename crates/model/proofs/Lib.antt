@@ -14,6 +14,8 @@ pub mod Misreadings
 pub mod Choice
 pub mod FloorLaws
 pub mod Struck
+pub mod Visited
+pub mod Steady
 pub mod Bounds
 pub mod RingsKept
 pub mod Strike
@@ -22,6 +24,7 @@ pub mod Judging
 pub mod RestoreKept
 pub mod RestoreStruck
 pub mod SoundnessKept
+pub mod SteadyKept
 pub mod EveryCall
 pub mod Simulates
 pub mod Guarded
@@ -49,6 +52,8 @@ pub mod EqualPartCases
 pub mod RoundTripCases
 pub mod Untouched
 pub mod EqualPartAmong
+pub mod SteadyWords
+pub mod SteadyCases
 pub mod Unaltered
 pub mod Floors
 pub mod ContainsHash

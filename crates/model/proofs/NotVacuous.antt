@@ -142,7 +142,7 @@ unfolding compute-all
 late-by-position = refl
 
 -- among events: one that stands aside, here by closing the book
-abbrev closed-words : List ℕ
+abbrev pub closed-words : List ℕ
 closed-words = left-by opened-words (given Close)
 
 aside : LeavesAlone 0 opened-words closed-words

@@ -58,7 +58,7 @@ pub flag-off : moments (left-by opened-words (given (ask taken 1 7 6)))
 unfolding compute-all
 flag-off = refl
 
-abbrev open-fallback : Call
+abbrev pub open-fallback : Call
 open-fallback = Open (replicate 5 4) (1 ∷ replicate 7 0)
 
 pub begun-once : moments words

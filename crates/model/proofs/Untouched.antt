@@ -46,13 +46,15 @@ started-at s starts r zero i h = absurd (omega arith)
 started-at s starts r (suc n) zero h = let e : r + 0 ≡ r = omega arith in rw e
 started-at s starts r (suc n) (suc i) h = let e : r + suc i ≡ suc r + i = omega arith in rw e (started-at s starts (suc r) n i (omega arith))
 
+pub opened-at : (s : Settings) (limits starts : List ℕ) (q : ℕ) → q < s .registers
+    → register-at q (opened s limits starts) ≡ started (usable-at s q) (start-of (getD starts (2 * q) 0) (getD starts (2 * q + 1) 0))
+unfolding opened
+opened-at s limits starts q low = let z : 0 + q ≡ q = omega arith in rw z at (started-at s starts 0 (s .registers) q low)
+
 opened-empty : (s : Settings) (limits starts : List ℕ) (q : ℕ) → q < s .registers → getD starts (2 * q) 0 ≡ 0
     → register-at q (opened s limits starts) ≡ started (usable-at s q) Empty
-unfolding opened start-of
-opened-empty s limits starts q low e =
-    let z : 0 + q ≡ q = omega arith in
-    let k = rw z at (started-at s starts 0 (s .registers) q low) in
-    k ∙ rw e refl
+unfolding start-of
+opened-empty s limits starts q low e = opened-at s limits starts q low ∙ rw e refl
 
 -- ---- a list
 -- the words are vetted under the opening's settings, and hold the register as it was

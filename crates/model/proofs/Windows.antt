@@ -18,7 +18,7 @@ use Rattle.model.specs.Windows.{Holds, JudgedBy, Windows}
 use Rattle.model.proofs.Choice.{or-false, or-cases, true-false}
 
 -- ---- what the test of a window says
-window-holds : (w : Window) (stamp ms : ℕ) → in-window w stamp ms ≡ true → Holds w stamp ms
+pub window-holds : (w : Window) (stamp ms : ℕ) → in-window w stamp ms ≡ true → Holds w stamp ms
 unfolding in-window
 window-holds w stamp ms e =
     let p = both-true (leb ms (stamp + w .behind)) (leb stamp (ms + w .ahead)) e in
@@ -36,7 +36,7 @@ module _ (u : Usable) (reg : Register) (a : Ask) where
   abbrev fine : Bool
   fine = in-window (window-for u (a .who)) (a .stamp) (a .ms)
 
-  new-inside : verdict u reg a ≡ New → fine ≡ true
+  pub new-inside : verdict u reg a ≡ New → fine ≡ true
   unfolding verdict
   new-inside =
       split-if (λ (v : Verdict). v ≡ New → fine ≡ true) held (λ d e. no (cc))

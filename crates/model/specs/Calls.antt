@@ -238,6 +238,8 @@ pub record Act : Type 0 where
   pub writes : Register → List ℕ
   -- it only reads: no word is altered
   pub reads : Bool
+  -- the reading by which it sweeps its register, unless that is pending
+  pub reading : Option ℕ
   pub sort : Sort
 
 -- one that reads: it answers, and writes to its output alone
@@ -249,6 +251,7 @@ shows fits own output writes says = record {
   output = output;
   writes = writes;
   reads = true;
+  reading = none;
   sort = Plain;
 }
 
@@ -257,17 +260,45 @@ looks says = shows true (λ reg. no-refusals) [] (λ reg. []) says
 
 -- one that alters the state
 abbrev pub alters : Bool → List Refusal → Sort → (Settings → ℕ → State → Step) → Act
-alters fits own sort does = record { fits = fits; own = λ reg. own; does = does; output = []; writes = λ reg. []; reads = false; sort = sort }
+alters fits own sort does = record {
+  fits = fits;
+  own = λ reg. own;
+  does = does;
+  output = [];
+  writes = λ reg. [];
+  reads = false;
+  reading = none;
+  sort = sort;
+}
+
+-- one that sweeps its register first
+abbrev pub sweeps-by : Option ℕ → Act → Act
+sweeps-by ms a = record {
+  fits = a .fits;
+  own = a .own;
+  does = a .does;
+  output = a .output;
+  writes = a .writes;
+  reads = a .reads;
+  reading = ms;
+  sort = a .sort;
+}
+
+-- with the flag off a ticket's reading is not used
+abbrev pub reading-of-ask : Ask → Option ℕ
+reading-of-ask a = cond (a .judging) (some (a .ms)) none
 
 unfoldable pub act : Deed → Act
 act (Ticket m a) =
-    alters (flag-fits (a .flag) && deliverer-fits (a .kind) (a .number)) no-refusals (manner-sort m a) (λ s r t. asked s r m (ask-of a) t)
+    sweeps-by (reading-of-ask (ask-of a))
+    (alters (flag-fits (a .flag) && deliverer-fits (a .kind) (a .number)) no-refusals (manner-sort m a) (λ s r t. asked s r m (ask-of a) t))
 act (ContainsHash fp) = looks (λ s r t. yes-no (any-class (holds-any (as-read fp)) (register-at r t .rings)))
 act (Begin number) =
     alters true no-refusals Plain
     (λ s r t. record { answer = cond (register-at r t .pending) Begun Already; state = with-register r (begin number (register-at r t)) t })
 act (Sweep ms) =
-    alters true no-refusals Plain (λ s r t. record { answer = Done; state = with-register r (sweep (usable-at s r) ms (register-at r t)) t })
+    sweeps-by (some ms)
+    (alters true no-refusals Plain (λ s r t. record { answer = Done; state = with-register r (sweep (usable-at s r) ms (register-at r t)) t }))
 act (DumpTo out) = shows true (dump-refusals out) out dump-bytes (λ s r t. Dumped (length (dump-bytes (register-at r t))))
 act (Restore bytes) = alters true (restore-refusals bytes) Restores (λ s r t. restored s r t (read-dump bytes))
 act (Resume bytes flag floor) =
@@ -298,6 +329,7 @@ pub record Meaning : Type 0 where
   pub output : List ℕ
   pub writes : State → List ℕ
   pub reads : Bool
+  pub reading : Option ℕ
   pub kind : Kind
 
 -- one that reads
@@ -309,6 +341,7 @@ shows-all fits own output writes says = record {
   output = output;
   writes = writes;
   reads = true;
+  reading = none;
   kind = Other;
 }
 
@@ -324,6 +357,7 @@ makes fits kind leaves = record {
   output = [];
   writes = λ t. [];
   reads = false;
+  reading = none;
   kind = kind;
 }
 
@@ -340,6 +374,7 @@ meaning (On r d) = record {
   output = act d .output;
   writes = λ t. act d .writes (register-at r t);
   reads = act d .reads;
+  reading = act d .reading;
   kind = OnOne r (act d .sort);
 }
 meaning (Expire ms) = makes (λ s. true) Other (λ s t. with-book (expire (least-published s 0 (t .registers) ms) (t .book)) t)
@@ -376,6 +411,11 @@ written-by call t = meaning call .writes t
 unfoldable pub only-reads : Call → Bool
 unfolding meaning act
 only-reads call = meaning call .reads
+
+-- the reading by which it sweeps the register that it is on
+unfoldable pub reading-of : Call → Option ℕ
+unfolding meaning act
+reading-of call = meaning call .reading
 
 unfoldable pub kind : Call → Kind
 unfolding meaning
@@ -452,7 +492,7 @@ output-after st ws call =
 
 -- the rules of this file, for a theorem that computes
 unfoldable pub compute-calls : ℕ
-unfolding start-all opened after-judged after-taken asked after-restored restored resumed least-published class-totals start-fits-at starts-fit limits-words-fit is-cut manner-sort opens beyond act deed-fits deed-refusals done-on meaning codes-fit own-refusals step output-of written-by only-reads kind is-open no-such-register settings-words-fit unfit too-short sound unsound first-met held-in refused reply after output-after
+unfolding start-all opened after-judged after-taken asked after-restored restored resumed least-published class-totals start-fits-at starts-fit limits-words-fit is-cut manner-sort opens beyond act deed-fits deed-refusals done-on meaning codes-fit own-refusals step output-of written-by only-reads reading-of kind is-open no-such-register settings-words-fit unfit too-short sound unsound first-met held-in refused reply after output-after
 compute-calls = 0
 
 -- the rules of all files

@@ -29,6 +29,8 @@ pub mod NotNew
 pub mod EqualPartCases
 pub mod RoundTripCases
 pub mod EqualPartAmong
+pub mod Steady
+pub mod SteadyAmong
 pub mod ReadersLeave
 pub mod UnjudgedLeaves
 pub mod AlreadyLeaves

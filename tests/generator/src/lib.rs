@@ -25,7 +25,7 @@ use tally::Tally;
 pub use profiles::ALL as PROFILES;
 
 /// Runs `number` calls of `profile` and hands each with its answer to `sink`: what was counted,
-/// or the call at which the ledger does not agree.
+/// or the call at which the ledger does not agree or the profile reaches what it never must.
 pub fn generate(
     machine: &mut impl Machine,
     profile: &'static Profile,
@@ -33,6 +33,7 @@ pub fn generate(
     number: u64,
     mut sink: impl FnMut(&Call, &Answer),
 ) -> Result<Tally, String> {
+    tally::all_counted(profile.never);
     let mut scene = Scene::new(profile, seed);
     let mut ledger = Ledger::default();
     let mut tally = Tally::default();
@@ -44,6 +45,9 @@ pub fn generate(
             .saw(&call, &answer, |again| machine.run(again))
             .map_err(|why| format!("{call} => {answer}: {why}"))?;
         tally.count(&call, &answer, &noted);
+        if let Some(what) = tally.reached(profile.never) {
+            return Err(format!("{call} => {answer}: {what} must never come"));
+        }
         scene.learn(&call, &answer);
     }
     Ok(tally)

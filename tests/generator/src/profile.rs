@@ -36,6 +36,17 @@ pub enum Clock {
     Edges,
     /// Hardly at all, so that generations fill up.
     Still,
+    /// Never back: often not at all, else by part of a bucket, and now and then by more than a ring.
+    Rising,
+    /// As `Rising`, but for one step back from one opening to the next; slowly after it.
+    Fallen,
+}
+
+impl Clock {
+    /// Whether every call that sweeps brings the present reading.
+    pub fn rises(self) -> bool {
+        matches!(self, Self::Rising | Self::Fallen)
+    }
 }
 
 /// How often each thing is done, against the sum of all.
@@ -137,6 +148,8 @@ pub struct Profile {
     pub words: u64,
     /// What it is meant to reach, by the names in `tally::COUNTED`.
     pub meant: &'static [&'static str],
+    /// What it must never reach, by the same names.
+    pub never: &'static [&'static str],
 }
 
 impl Profile {
@@ -158,5 +171,6 @@ impl Profile {
         weights: Weights::USUAL,
         words: 100_000,
         meant: &[],
+        never: &[],
     };
 }

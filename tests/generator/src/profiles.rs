@@ -5,7 +5,43 @@ use crate::profile::{Clock, Levels, Profile, Spans, Weights};
 const USUAL: Profile = Profile::USUAL;
 const WEIGHTS: Weights = Weights::USUAL;
 
-pub static ALL: [Profile; 16] = [
+const STEADY: Profile = Profile {
+    name: "steady",
+    about: "readings that never fall, equal or past a ring often, and nothing restored",
+    registers: (1, 3),
+    spans: Spans::Mixed,
+    clock: Clock::Rising,
+    fallback: 30,
+    weights: Weights {
+        begin: 40,
+        sweep: 40,
+        dump: 8,
+        restore: 0,
+        restore_made: 0,
+        resume: 0,
+        ..WEIGHTS
+    },
+    stretch: (40, 160),
+    meant: &[
+        "new",
+        "duplicate",
+        "late: window",
+        "late: floor",
+        "ahead",
+        "unjudged",
+        "begun",
+        "dumped",
+        "struck again",
+        "steady",
+        "reading: same",
+        "reading: past a ring",
+        "expired",
+    ],
+    never: &["late: position", "reading: back", "whole", "partly"],
+    ..USUAL
+};
+
+pub static ALL: [Profile; 18] = [
     Profile {
         name: "full",
         about: "tables that are often full: slots, places, pairs and limits of a few",
@@ -60,7 +96,14 @@ pub static ALL: [Profile; 16] = [
             again: 250,
             ..WEIGHTS
         },
-        meant: &["late", "late: position", "struck again", "expired"],
+        meant: &[
+            "late: window",
+            "late: floor",
+            "late: position",
+            "struck again",
+            "reading: back",
+            "expired",
+        ],
         ..USUAL
     },
     Profile {
@@ -330,5 +373,14 @@ pub static ALL: [Profile; 16] = [
         stretch: (40, 160),
         meant: &["partly over live", "struck again", "whole", "partly"],
         ..USUAL
+    },
+    STEADY,
+    Profile {
+        name: "fallen",
+        about: "as steady, with one step back from one opening to the next",
+        clock: Clock::Fallen,
+        meant: &["late: position", "reading: back", "steady"],
+        never: &["whole", "partly"],
+        ..STEADY
     },
 ];

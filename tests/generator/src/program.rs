@@ -35,7 +35,7 @@ pub fn named(name: &str) -> Vec<&'static Profile> {
 }
 
 /// Runs `number` calls of each profile, each on a machine of its own. The status is 0 only if the
-/// ledger agreed throughout and every profile reached what it is meant to.
+/// ledger agreed throughout and every profile reached what it is meant to, and nothing it never must.
 pub fn run<M: Machine>(
     machine: impl Fn() -> M,
     profiles: &[&'static Profile],

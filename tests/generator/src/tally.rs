@@ -5,7 +5,7 @@ use std::fmt;
 
 use calls::{Answer, Call, Verdict};
 
-use crate::ledger::{Cause, Noted};
+use crate::ledger::{Cause, Noted, Step};
 
 #[derive(Default)]
 pub struct Tally {
@@ -14,11 +14,12 @@ pub struct Tally {
 }
 
 /// Everything that is counted, in the order in which it is printed.
-pub const COUNTED: [&str; 38] = [
+pub const COUNTED: [&str; 44] = [
     "opened",
     "new",
     "duplicate",
-    "late",
+    "late: window",
+    "late: floor",
     "late: position",
     "ahead",
     "unjudged",
@@ -48,12 +49,24 @@ pub const COUNTED: [&str; 38] = [
     "by restored",
     "struck again",
     "modest",
+    "steady",
+    "steady: takes",
+    "reading: back",
+    "reading: same",
+    "reading: past a ring",
     "expired",
     "limits",
     "closed",
     "looked",
     "viewed",
 ];
+
+/// Stops at a name that is not counted, for it would never come.
+pub fn all_counted(names: &[&str]) {
+    for name in names {
+        assert!(COUNTED.contains(name), "{name} is not counted");
+    }
+}
 
 fn full(cause: Option<Cause>) -> &'static str {
     match cause {
@@ -74,7 +87,8 @@ fn verdict(verdict: Verdict, noted: &Noted) -> &'static str {
         Verdict::New => "new",
         Verdict::Duplicate => "duplicate",
         Verdict::Late if noted.clash => "late: position",
-        Verdict::Late => "late",
+        Verdict::Late if noted.inside => "late: floor",
+        Verdict::Late => "late: window",
         Verdict::Ahead => "ahead",
         Verdict::Full => full(noted.cause),
         Verdict::Unjudged => "unjudged",
@@ -90,6 +104,15 @@ fn refused(number: u64) -> &'static str {
         7 => "refused 7",
         8 => "refused 8",
         _ => unreachable!("2 and 3 are no answers of a machine without lent words"),
+    }
+}
+
+fn reading(step: Step) -> Option<&'static str> {
+    match step {
+        Step::Back => Some("reading: back"),
+        Step::Same => Some("reading: same"),
+        Step::On => None,
+        Step::PastRing => Some("reading: past a ring"),
     }
 }
 
@@ -128,6 +151,11 @@ impl Tally {
         self.add("restored again", u64::from(noted.again));
         self.add("restored full", u64::from(noted.filled));
         self.add("modest", u64::from(noted.modest));
+        self.add("steady", u64::from(noted.steady));
+        self.add("steady: takes", u64::from(noted.steady_takes));
+        if let Some(what) = noted.step.and_then(reading) {
+            self.add(what, 1);
+        }
         if let (Call::Ask { ticket, .. }, Answer::Verdict(Verdict::New)) = (call, answer) {
             match ticket.who.listed() {
                 Some(calls::Who::Relay) => self.add("by relay", 1),
@@ -135,6 +163,11 @@ impl Tally {
                 _ => {}
             }
         }
+    }
+
+    /// The first of what must never come that came.
+    pub fn reached(&self, never: &'static [&'static str]) -> Option<&'static str> {
+        never.iter().copied().find(|what| self.of(what) > 0)
     }
 
     /// What came less often than once in 2,000 calls, of what was meant to come.

@@ -5,6 +5,8 @@
 //!   opening or a resume on that register that went through. A restore ends nothing, however it
 //!   came out.
 //! - **Equal part.** A party within its equal part is never turned away (`modest`).
+//! - **Steady.** Where takes' readings never fell and nothing was restored or resumed since the
+//!   opening, no take is Late that judge would answer New.
 //! - **Entries** are counted here, draw by draw, and compared with what the machine says.
 //!
 //! The ledger keeps no floor, no stamps and no slots: Late and Ahead, the order within a dump, and
@@ -21,6 +23,7 @@ use calls::{Answer, Call, Form, Look, Start, Verdict};
 use crate::dump::{self, Dump};
 pub use shares::Cause;
 use shares::{Draw, Shares};
+pub use table::Step;
 use table::Table;
 
 /// What a call showed, beside its answer.
@@ -32,8 +35,16 @@ pub struct Noted {
     pub clash: bool,
     /// A ticket struck before was asked for again.
     pub struck: bool,
+    /// The ticket was inside its window.
+    pub inside: bool,
     /// The equal part's promise was due.
     pub modest: bool,
+    /// The promise of a steady clock was due.
+    pub steady: bool,
+    /// It was due by takes' readings alone, for another had fallen.
+    pub steady_takes: bool,
+    /// How the register's reading went, where it swept.
+    pub step: Option<Step>,
     /// A generation of a dump failed, and what was held in its bucket before it went.
     pub dropped: bool,
     /// A restore brought nothing that was not held.
@@ -91,8 +102,11 @@ impl Ledger {
                 })
             }
             (Call::Sweep { register, reading }, _) => {
-                self.tables[*register as usize].sweep(*reading);
-                Ok(Noted::default())
+                let step = self.tables[*register as usize].sweep(*reading);
+                Ok(Noted {
+                    step,
+                    ..Noted::default()
+                })
             }
             (Call::Expire { reading }, _) => {
                 let least = self.tables.iter().map(Table::published).min();
@@ -142,7 +156,11 @@ impl Ledger {
         if !judges {
             return Ok(Noted::default());
         }
-        table.sweep(ticket.reading);
+        let step = table.sweep(ticket.reading);
+        if form.takes() {
+            table.takes_at(ticket.reading);
+        }
+        let inside = table.inside(ticket);
         let fingerprint = ticket.fingerprint.max(1);
         let held = table.holds(fingerprint, ticket.stamp);
         must(held == (verdict == Verdict::Duplicate), || {
@@ -154,6 +172,8 @@ impl Ledger {
         })?;
         let mut noted = Noted {
             struck,
+            inside,
+            step,
             ..Noted::default()
         };
         if form.takes() && would_be_new(verdict, ticket, again) {
@@ -176,6 +196,11 @@ impl Ledger {
             who,
             second: table.second_of(bucket),
         };
+        noted.steady = table.steady();
+        noted.steady_takes = noted.steady && table.fell;
+        must(!(noted.steady && verdict == Verdict::Late), || {
+            "Late on a steady clock where judge says New".into()
+        })?;
         let clash = table.clashes(who.class(), bucket);
         let crowded = table.crowded(who.class(), bucket);
         noted.modest = !crowded && self.shares.modest(&draw);
@@ -212,6 +237,7 @@ impl Ledger {
             again: self.tables[register].knows_all(&dump),
             ..Noted::default()
         };
+        self.tables[register].disturbed = true;
         let whole = self.enter(register, &dump, &mut noted);
         if forgets {
             self.struck[register].clear();

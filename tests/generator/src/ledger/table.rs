@@ -2,7 +2,8 @@
 
 use std::collections::{BTreeMap, BTreeSet};
 
-use calls::{Answer, Windows};
+use calls::call::Ticket;
+use calls::{Answer, Who, Windows};
 
 use super::shares::second;
 use crate::dump::{self, Dump};
@@ -12,10 +13,27 @@ struct Generation {
     fingerprints: BTreeSet<u64>,
 }
 
+/// How a reading by which a register sweeps is to the one before it.
+#[derive(Clone, Copy)]
+pub enum Step {
+    Back,
+    Same,
+    On,
+    /// Every bucket of the ring is passed.
+    PastRing,
+}
+
 pub struct Table {
     pub windows: Windows,
     pub pending: bool,
     pub swept: u64,
+    /// The last reading by which it swept, and the last of a take.
+    reading: Option<u64>,
+    taken: u64,
+    /// Since the opening: a reading fell, a take's did, something was restored or resumed.
+    pub fell: bool,
+    take_fell: bool,
+    pub disturbed: bool,
     /// By position, those that hold something.
     rings: [BTreeMap<u64, Generation>; 3],
 }
@@ -26,6 +44,11 @@ impl Table {
             windows,
             pending,
             swept: 0,
+            reading: None,
+            taken: 0,
+            fell: false,
+            take_fell: false,
+            disturbed: false,
             rings: Default::default(),
         }
     }
@@ -43,11 +66,51 @@ impl Table {
         bucket % self.windows.ring()
     }
 
-    pub fn sweep(&mut self, reading: u64) {
-        if self.pending {
-            return;
+    /// Whether takes' readings never fell, and nothing was restored or resumed.
+    pub fn steady(&self) -> bool {
+        !self.take_fell && !self.disturbed
+    }
+
+    /// A take, not pending, with its flag on.
+    pub fn takes_at(&mut self, reading: u64) {
+        self.take_fell |= reading < self.taken;
+        self.taken = reading;
+    }
+
+    /// How `reading` is to the one before it.
+    fn step(&self, reading: u64) -> Step {
+        let far = self.swept.saturating_add(self.windows.ring());
+        match self.reading {
+            Some(last) if reading < last => Step::Back,
+            Some(last) if reading == last => Step::Same,
+            Some(_) if reading.div_ceil(self.windows.bucket) > far => Step::PastRing,
+            _ => Step::On,
         }
-        let through = reading.div_ceil(self.windows.bucket);
+    }
+
+    /// Whether the ticket's stamp is inside its deliverer's window.
+    pub fn inside(&self, ticket: &Ticket) -> bool {
+        let window = match ticket.who.listed() {
+            Some(Who::Feeder(_)) => self.windows.origin,
+            _ => self.windows.copy,
+        };
+        ticket.stamp.saturating_add(window.behind) >= ticket.reading
+            && ticket.stamp <= ticket.reading.saturating_add(window.ahead)
+    }
+
+    /// How the reading went; none while it is pending.
+    pub fn sweep(&mut self, reading: u64) -> Option<Step> {
+        if self.pending {
+            return None;
+        }
+        let step = self.step(reading);
+        self.fell |= matches!(step, Step::Back);
+        self.reading = Some(reading);
+        self.forget(reading.div_ceil(self.windows.bucket));
+        Some(step)
+    }
+
+    fn forget(&mut self, through: u64) {
         let from = self.swept.max(through.saturating_sub(self.windows.ring()));
         for bucket in from..through {
             let position = self.position(bucket);

@@ -29,6 +29,10 @@ pub struct Scene {
     reading: u64,
     /// About where the clock goes, if it goes along an edge.
     edge: u64,
+    /// The calls that are left when a clock steps back that does so once.
+    fall: Option<u64>,
+    /// Whether each register waits for its begin.
+    pending: Vec<bool>,
     /// The last floor that each register told.
     floors: Vec<u64>,
     tickets: VecDeque<Ticket>,
@@ -50,6 +54,8 @@ impl Scene {
             settings: Settings::default(),
             reading: 0,
             edge: 0,
+            fall: None,
+            pending: Vec::new(),
             floors: Vec::new(),
             tickets: VecDeque::new(),
             dumps: VecDeque::new(),
@@ -62,6 +68,14 @@ impl Scene {
 
     /// The next call of the list.
     pub fn call(&mut self) -> Call {
+        let mut call = self.next();
+        if self.profile.clock.rises() {
+            self.read_clock(&mut call);
+        }
+        call
+    }
+
+    fn next(&mut self) -> Call {
         if let Some(call) = self.ahead.pop_front() {
             return call;
         }
@@ -86,6 +100,9 @@ impl Scene {
                 if *floor > self.reading.saturating_add(windows.ahead()) {
                     self.end_soon();
                 }
+            }
+            (Call::Begin { register, .. }, Answer::Begun) => {
+                self.pending[*register as usize] = false;
             }
             (Call::Close, _) => self.end_soon(),
             (Call::Ask { form, ticket }, Answer::Verdict(_)) if form.takes() => {

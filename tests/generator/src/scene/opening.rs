@@ -14,9 +14,11 @@ impl Scene {
         self.floors = vec![0; self.settings.windows.len()];
         self.tickets.clear();
         self.start_clock();
-        let starts = (0..self.settings.windows.len())
+        let starts: Vec<_> = (0..self.settings.windows.len())
             .map(|_| self.start())
             .collect();
+        let pending = starts.iter().map(|start| *start == Start::Fallback);
+        self.pending = pending.collect();
         Call::Open {
             settings: self.settings.clone(),
             starts,
