@@ -1,5 +1,5 @@
 # The commands of README.md.
-.PHONY: run test differential hostile soak bench install clean
+.PHONY: run test differential hostile crashes soak bench install clean
 
 # Where `make install` puts things, and the folder that stands before it while a package is made.
 PREFIX ?= /usr/local
@@ -17,11 +17,13 @@ test:
 build/libstrikes.a: $(shell hosts/archive sources)
 	@hosts/archive
 
-# The host programs: the register as a program (demo, replay, view, meter, soak), and a small gateway in C.
+# The host programs: the register as a program (demo, replay, view, meter, soak), and a small gateway in C and in Rust.
 build/strikes: build/libstrikes.a $(wildcard hosts/*/src/*.rs hosts/*/src/*/*.rs tests/calls/src/*.rs tests/generator/src/*.rs tests/generator/src/*/*.rs)
 	@hosts/build strikes
-build/gateway: build/libstrikes.a include/strikes.h hosts/c/gateway.c
+build/gateway: build/libstrikes.a include/strikes.h $(wildcard hosts/c/*.c hosts/c/*.h)
 	@hosts/build gateway
+build/gateway_rust: build/libstrikes.a $(wildcard hosts/rust/src/*.rs hosts/rust/src/*/*.rs hosts/rust/examples/*.rs)
+	@hosts/build gateway_rust
 
 # The Rust that this register is a port of, built as a program that runs lists of calls (docs/CALLS.md).
 build/oracle: $(wildcard tests/oracle/* tests/calls/src/* tests/generator/src/*)
@@ -39,6 +41,11 @@ INPUTS ?= 2000000
 hostile: build/libstrikes.a
 	@hosts/build hostile
 	build/hostile $(SEED) $(INPUTS)
+
+# Gateways that are killed and started again: KILLS of them in C, in Rust, and of both on one folder.
+KILLS ?= 1000
+crashes: build/gateway build/gateway_rust
+	@tests/crashes/run $(KILLS) $(SEED)
 
 # Half a year of a gateway's clock, some 25 million tickets; the picture is build/soak.svg.
 soak: build/strikes

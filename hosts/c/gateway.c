@@ -1,16 +1,19 @@
 /*
  * A small gateway: reads tickets from a file and prints the verdict on each.
  *
- *     gateway TICKETS [DUMP]
+ *     gateway TICKETS FOLDER [MARK]
  *
  * A line of the file is a ticket or a tick, by the gateway's clock in milliseconds:
  *
  *     READING f:ID|p:ID|r FINGERPRINT STAMP
  *     READING tick
  *
- * From a # on, a line is a comment. With DUMP, what an earlier run left there is restored first, and what this run leaves is
- * written there at the end; where there is no such file yet, only tickets stamped after the first reading are counted.
- * Status 0 if all lines were read, 1 if a call was refused, 2 if a line or file could not be read or written.
+ * From a # on, a line is a comment. FOLDER keeps what the gateway knows from one run to the next (keep.h). It must exist, and be empty
+ * before the first run. MARK is for a folder whose mark is lost: a number that no counted ticket's stamp is above.
+ *
+ * A ticket is counted when its line with New is printed: each line is written before the next ticket is read. At the end of the file, or
+ * at a line that it cannot serve, the gateway stops and saves. Status 0 if all lines were served and all is saved, 1 if a call was
+ * refused, 2 if a line or file could not be read or written.
  */
 #include <errno.h>
 #include <inttypes.h>
@@ -19,7 +22,7 @@
 #include <stdlib.h>
 #include <string.h>
 
-#include "strikes.h"
+#include "keep.h"
 
 /* One register, tickets of one minute: a meter's own up to 60 s old, a neighbour's copy 45 s, and each up to 10 s ahead, in buckets
    of a second. 16 meters and 16 neighbours, and 96 tickets (three quarters of 128 slots) of each class in one bucket. */
@@ -45,12 +48,6 @@ static const uint64_t limits[STRIKES_LIMITS] = {
     [STRIKES_LIMIT_RELAY] = 1000,
 };
 
-/* The words and how many there are: all that a gateway has. */
-struct gateway {
-    uint64_t *words;
-    size_t length;
-};
-
 static const char *verdict_name(uint64_t verdict)
 {
     static const char *const names[] = {"New", "Duplicate", "Late", "Ahead", "Full", "Unjudged"};
@@ -60,122 +57,67 @@ static const char *verdict_name(uint64_t verdict)
 /* Whether a call went through; says why it did not. */
 static int went_through(uint64_t number, const char *call)
 {
-    static const char *const reasons[] = {
-        "",
-        "a setting or limit is out of bounds, or a code is not listed",
-        "fewer words are lent than the settings need",
-        "the words are not sound, or keep other settings",
-        "there is no such register",
-        "the output is too short for the dump",
-        "a register that is pending has no dump",
-        "the dump is cut short",
-    };
-    if (number == STRIKES_OK)
+    if (number == 0)
         return 1;
-    fprintf(stderr, "gateway: %s was refused: %" PRIu64 ", %s\n", call, number,
-            number < sizeof reasons / sizeof reasons[0] ? reasons[number] : "an unknown number");
+    fprintf(stderr, "gateway: %s: %" PRIu64 ", %s%s%s\n", call, number, keep_reason(number), number == KEEP_DISK ? ": " : "",
+            number == KEEP_DISK ? strerror(errno) : "");
     return 0;
 }
 
-static int open_gateway(struct gateway *gateway, uint64_t start)
+/* 0, or the status to end with after a call that did not go through. */
+static int status_of(uint64_t number, const char *call)
+{
+    return went_through(number, call) ? 0 : number < KEEP_DISK ? 1 : 2;
+}
+
+/* Tells the operator what is known. */
+static void tell(const struct keep *keep)
+{
+    switch (keep->found) {
+    case KEEP_FIRST:
+        printf("started for the first time\n");
+        break;
+    case KEEP_WHOLE:
+        printf("restored whole\n");
+        break;
+    case KEEP_PARTLY:
+        printf("restored partly: what did not fit is Late\n");
+        break;
+    case KEEP_FALLBACK:
+        printf("nothing to restore: tickets stamped up to %" PRIu64 " are Late\n", keep->mark);
+        break;
+    case KEEP_MARK_LOST:
+        fprintf(stderr, "gateway: the mark is lost or damaged: bring one, a number that no counted ticket's stamp is above\n");
+        break;
+    }
+}
+
+/* Lends the words and starts: 0, or the status to end with. */
+static int start(struct keep *keep, const char *folder, const uint64_t *mark)
 {
     uint64_t needed;
-    uint64_t starts[STRIKES_STARTS] = {0};
-    starts[STRIKES_START_CODE(0)] = start;
+    int status;
     if (!went_through(strikes_words_needed(settings, STRIKES_SETTINGS, &needed), "words_needed"))
-        return 0;
-    gateway->length = (size_t)needed;
-    gateway->words = calloc(gateway->length, sizeof *gateway->words);
-    if (gateway->words == NULL) {
-        fprintf(stderr, "gateway: no memory for %zu words\n", gateway->length);
-        return 0;
+        return 1;
+    keep->length = (size_t)needed;
+    keep->words = calloc(keep->length, sizeof *keep->words);
+    if (keep->words == NULL) {
+        fprintf(stderr, "gateway: no memory for %zu words\n", keep->length);
+        return 2;
     }
-    return went_through(strikes_open(settings, STRIKES_SETTINGS, limits, STRIKES_LIMITS, starts, STRIKES_STARTS, gateway->words,
-                                     gateway->length),
-                        "open");
+    status = status_of(keep_start(keep, folder), "start");
+    if (status == 0 && mark != NULL)
+        status = status_of(keep_begin(keep, *mark), "begin");
+    if (status == 0)
+        tell(keep);
+    return status == 0 && keep->found == KEEP_MARK_LOST ? 2 : status;
 }
 
 /* The host's tick: sweeps, then frees the shares of what was swept. */
-static int tick(struct gateway *gateway, uint64_t reading)
+static int tick(struct keep *keep, uint64_t reading)
 {
-    return went_through(strikes_sweep(settings, STRIKES_SETTINGS, gateway->words, gateway->length, 0, reading), "sweep")
-           && went_through(strikes_expire(settings, STRIKES_SETTINGS, gateway->words, gateway->length, reading), "expire");
-}
-
-/* A register that waits for its clock gets its floor from the first reading. */
-static int begin(struct gateway *gateway, uint64_t reading)
-{
-    uint64_t begun;
-    return went_through(strikes_begin(settings, STRIKES_SETTINGS, gateway->words, gateway->length, 0, reading, &begun), "begin");
-}
-
-/* The whole file in memory, or NULL. */
-static unsigned char *read_file(const char *path, size_t *length)
-{
-    unsigned char *bytes = NULL;
-    size_t room = 0;
-    size_t got;
-    FILE *file = fopen(path, "rb");
-    if (file == NULL)
-        return NULL;
-    *length = 0;
-    do {
-        unsigned char *more = realloc(bytes, room += 65536);
-        if (more == NULL)
-            break;
-        bytes = more;
-        got = fread(bytes + *length, 1, room - *length, file);
-        *length += got;
-    } while (got > 0);
-    if (ferror(file)) {
-        free(bytes);
-        bytes = NULL;
-    }
-    fclose(file);
-    return bytes;
-}
-
-static int write_file(const char *path, const unsigned char *bytes, size_t length)
-{
-    FILE *file = fopen(path, "wb");
-    int ok = file != NULL && fwrite(bytes, 1, length, file) == length;
-    ok = file != NULL && fclose(file) == 0 && ok;
-    if (ok)
-        printf("dumped %zu bytes\n", length);
-    else
-        fprintf(stderr, "gateway: %s: %s\n", path, strerror(errno));
-    return ok;
-}
-
-/* Brings back what an earlier run left. */
-static int restore(struct gateway *gateway, const unsigned char *bytes, size_t length)
-{
-    uint64_t whole;
-    uint64_t read;
-    if (!went_through(strikes_restore(settings, STRIKES_SETTINGS, gateway->words, gateway->length, 0, bytes, length, &whole, &read),
-                      "restore"))
-        return 0;
-    printf("restored %s from %" PRIu64 " bytes\n", whole ? "whole" : "partly", read);
-    return 1;
-}
-
-/* Stops: nothing is counted any more, then everything held is written. 0, or the status to end with. */
-static int stop(struct gateway *gateway, const char *path)
-{
-    uint64_t written;
-    int status = 1;
-    /* 8 bytes for each word are always enough. */
-    size_t length = 8 * gateway->length;
-    unsigned char *out = malloc(length);
-    if (out == NULL) {
-        fprintf(stderr, "gateway: no memory for a dump\n");
-        return 1;
-    }
-    if (went_through(strikes_close(settings, STRIKES_SETTINGS, gateway->words, gateway->length), "close")
-        && went_through(strikes_dump(settings, STRIKES_SETTINGS, gateway->words, gateway->length, 0, out, length, &written), "dump"))
-        status = write_file(path, out, (size_t)written) ? 0 : 2;
-    free(out);
-    return status;
+    return went_through(strikes_sweep(settings, STRIKES_SETTINGS, keep->words, keep->length, 0, reading), "sweep")
+           && went_through(strikes_expire(settings, STRIKES_SETTINGS, keep->words, keep->length, reading), "expire");
 }
 
 /* A decimal number that fills the whole word. */
@@ -204,11 +146,18 @@ static int deliverer_of(const char *word, uint64_t *kind, uint64_t *number)
     return number_of(word + 2, number);
 }
 
-/* One line: 0 if it was served, 1 if a call was refused, 2 if it could not be read. */
-static int serve(struct gateway *gateway, char *line, int *begun)
+static int bad_line(void)
+{
+    fprintf(stderr, "gateway: no ticket and no tick\n");
+    return 2;
+}
+
+/* One line: 0 if it was served, 1 if a call was refused, 2 if it or a file could not be read or written. */
+static int serve(struct keep *keep, char *line)
 {
     static const char blanks[] = " \t\r\n";
     uint64_t reading, kind, number, fingerprint, stamp, verdict;
+    int status;
     char *word, *comment = strchr(line, '#');
     if (comment != NULL)
         *comment = '\0';
@@ -216,29 +165,23 @@ static int serve(struct gateway *gateway, char *line, int *begun)
     if (word == NULL)
         return 0;
     if (!number_of(word, &reading))
-        return 2;
-    if (!*begun && !begin(gateway, reading))
-        return 1;
-    *begun = 1;
+        return bad_line();
     word = strtok(NULL, blanks);
     if (word != NULL && strcmp(word, "tick") == 0)
-        return tick(gateway, reading) ? 0 : 1;
+        return tick(keep, reading) ? 0 : 1;
     if (!deliverer_of(word, &kind, &number) || !number_of(strtok(NULL, blanks), &fingerprint)
         || !number_of(strtok(NULL, blanks), &stamp) || strtok(NULL, blanks) != NULL)
-        return 2;
-    if (!went_through(strikes_take_batch(settings, STRIKES_SETTINGS, gateway->words, gateway->length, 0, fingerprint, stamp, reading,
-                                         STRIKES_ON, kind, number, &verdict),
-                      "take_batch"))
-        return 1;
-    printf("%" PRIu64 " %s %" PRIu64 " %" PRIu64 " %s\n", reading, word, fingerprint, stamp, verdict_name(verdict));
-    return 0;
+        return bad_line();
+    status = status_of(keep_take(keep, 0, fingerprint, stamp, reading, STRIKES_ON, kind, number, &verdict), "take");
+    if (status == 0)
+        printf("%" PRIu64 " %s %" PRIu64 " %" PRIu64 " %s\n", reading, word, fingerprint, stamp, verdict_name(verdict));
+    return status;
 }
 
-static int serve_file(struct gateway *gateway, const char *path)
+static int serve_file(struct keep *keep, const char *path)
 {
     char line[256];
     int status = 0;
-    int begun = 0;
     unsigned long at = 0;
     FILE *file = fopen(path, "r");
     if (file == NULL) {
@@ -247,36 +190,38 @@ static int serve_file(struct gateway *gateway, const char *path)
     }
     while (status == 0 && fgets(line, sizeof line, file) != NULL) {
         at++;
-        status = serve(gateway, line, &begun);
-        if (status == 2)
-            fprintf(stderr, "gateway: %s: line %lu is no ticket and no tick\n", path, at);
+        status = serve(keep, line);
     }
+    if (status != 0)
+        fprintf(stderr, "gateway: %s: ended at line %lu\n", path, at);
     fclose(file);
     return status;
 }
 
+/* Serves the file, and saves also where a line could not be served: what was counted is known all the same. */
+static int run(struct keep *keep, const char *path)
+{
+    int served = serve_file(keep, path);
+    int stopped = status_of(keep_stop(keep), "stop");
+    if (stopped == 0)
+        printf("saved\n");
+    return served != 0 ? served : stopped;
+}
+
 int main(int count, char **words)
 {
-    struct gateway gateway = {NULL, 0};
-    unsigned char *dump = NULL;
-    size_t length = 0;
-    int status = 1;
-    int ok;
-    if (count != 2 && count != 3) {
-        fprintf(stderr, "gateway TICKETS [DUMP]\n");
+    struct keep keep = {.settings = settings, .limits = limits, .reserve = KEEP_MINUTE, .folder = -1};
+    uint64_t mark;
+    int status;
+    if (count < 3 || count > 4 || (count == 4 && !number_of(words[3], &mark))) {
+        fprintf(stderr, "gateway TICKETS FOLDER [MARK]\n");
         return 2;
     }
-    if (count == 3)
-        dump = read_file(words[2], &length);
-    /* A gateway that kept a dump but has lost it waits for its clock. */
-    ok = open_gateway(&gateway, count == 3 && dump == NULL ? STRIKES_START_FALLBACK : STRIKES_START_EMPTY)
-         && (dump == NULL || restore(&gateway, dump, length));
-    if (ok) {
-        status = serve_file(&gateway, words[1]);
-        if (count == 3 && status == 0)
-            status = stop(&gateway, words[2]);
-    }
-    free(dump);
-    free(gateway.words);
+    setvbuf(stdout, NULL, _IOLBF, BUFSIZ);
+    status = start(&keep, words[2], count == 4 ? &mark : NULL);
+    if (status == 0)
+        status = run(&keep, words[1]);
+    keep_end(&keep);
+    free(keep.words);
     return status;
 }
