@@ -20,7 +20,8 @@ use Rattle.model.specs.Words.{State}
 use Rattle.model.specs.Codes.{went-through}
 use Rattle.model.specs.Calls.{Manner, judged, judged-batch, taken, taken-batch, Deed, Ticket, ContainsHash, Begin, Sweep, DumpTo, Restore, Resume, Floor, Pending}
 use Rattle.model.specs.Calls.{SweptBucket, ViewRegister, ViewDeliverer, Call, Open, On, Expire, SetLimits, Close, HeldBy, ClassTotals, no-register, register-at, opened, yes-no, floor-answer}
-use Rattle.model.specs.Calls.{Asking, manner-sort, ask-of, reading-of-ask, proven-of, asked, after-judged, after-taken, after-restored, restored, resumed, least-published, class-totals, opens, beyond}
+use Rattle.model.specs.Calls.{Asking, manner-sort, ask-of, reading-of-ask, proven-of, asked, after-judged}
+use Rattle.model.specs.Calls.{after-taken, after-restored, restored, resumed, least-published, class-totals, opens, beyond}
 use Rattle.model.specs.Calls.{deed-fits, deed-refusals, done-on, meaning, codes-fit}
 use Rattle.model.specs.Refusals.{in-order}
 use Rattle.model.specs.Once.{asks-about, takes, remakes}

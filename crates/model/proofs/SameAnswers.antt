@@ -1,4 +1,4 @@
--- Words answer as the rules do (specs/SameAnswers). Assumes nothing.
+-- Words answer as the rules do (specs/SameAnswers, SameFromOpening). Assumes nothing.
 use Prim.Native.Nat.{ℕ}
 use mathlib.Core.Path.{_≡_, refl, ap, sym, _∙_, subst}
 use mathlib.Core.Bool.{false}
@@ -12,7 +12,8 @@ use Rattle.model.specs.Settings.{settings-of, words-needed}
 use Rattle.model.specs.Words.{State}
 use Rattle.model.specs.Calls.{Call, Open, step, refusal, unfit, too-short, sound, unsound, is-open, no-such-register, own-refusals, refusals-of, first-met, held-in, refused, reply, after}
 use Rattle.model.specs.Soundness.{Vetted}
-use Rattle.model.specs.SameAnswers.{served, answers-from, state-after, answers-on, words-left, SameOn, SameAnswers, SameFromOpening}
+use Rattle.model.specs.SameAnswers.{served, answers-from, state-after, answers-on, words-left, SameOn, SameAnswers}
+use Rattle.model.specs.SameFromOpening.{SameFromOpening}
 use Rattle.model.proofs.Choice.{or-right}
 use Rattle.model.proofs.Simulates.{refused-words, entered, reply-is, after-vetted, after-holds, through-zero}
 use Rattle.model.proofs.RoundTrip.{vetted-seen}

@@ -31,9 +31,11 @@ use Rattle.model.specs.Class.{class-of, pick}
 use Rattle.model.specs.Generation.{among, as-read, slots-for, insert}
 use Rattle.model.specs.Book.{Book, second-of, granted, draw-says}
 use Rattle.model.specs.Register.{Ring, Register, generation-at, with-generation, strike, sweep-ring, sweep-rings, through-of, sweep, started-with, started, begin}
-use Rattle.model.specs.Judge.{Ask, bucket-of, window-for, front-past, unjudged, verdict, Judgement, judge, ahead-for, judge-batch, collides, make-room, Taken, take-room, take-share, take-judged, take, take-batch}
+use Rattle.model.specs.Judge.{Ask, bucket-of, window-for, front-past, unjudged, verdict, Judgement, judge, ahead-for}
+use Rattle.model.specs.Judge.{judge-batch, collides, make-room, Taken, take-room, take-share, take-judged, take, take-batch}
 use Rattle.model.specs.Words.{State, state-form}
-use Rattle.model.specs.Calls.{Manner, judged, judged-batch, taken, taken-batch, Asking, manner-sort, Ticket, Begin, Sweep, On, Sort, Asks, Takes, Plain, OnOne, Meaning, meaning, done-on, asked, after-judged, after-taken, ask-of}
+use Rattle.model.specs.Calls.{Manner, judged, judged-batch, taken, taken-batch, Asking, manner-sort, Ticket, Begin, Sweep, On}
+use Rattle.model.specs.Calls.{Sort, Asks, Takes, Plain, OnOne, Meaning, meaning, done-on, asked, after-judged, after-taken, ask-of}
 use Rattle.model.specs.Calls.{reading-of-ask, no-register, register-at}
 use Rattle.model.specs.Steady.{reading-on, kind-taking}
 use Rattle.model.proofs.Choice.{or-false, swap-cases}

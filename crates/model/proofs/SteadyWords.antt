@@ -26,7 +26,8 @@ use Rattle.model.specs.Soundness.{Vetted}
 use Rattle.model.specs.Once.{Event, Calls, Replaces, Aside, LeavesAlone, left-by-event, AllAside}
 use Rattle.model.specs.RoundTrip.{reaches}
 use Rattle.model.specs.EqualPartAmong.{words-among}
-use Rattle.model.specs.Steady.{taking-of, Readings, reading-on, reading-by, latest, no-fall, disturbs, Clock, at-opening, ticked, ticked-if, clock-heard, clock-since, OpenedHere, NeverLateOn, SteadyAnyReading, SteadyNeverLate, SteadyTakes}
+use Rattle.model.specs.Steady.{taking-of, Readings, reading-on, reading-by, latest, no-fall, disturbs, Clock, at-opening}
+use Rattle.model.specs.Steady.{ticked, ticked-if, clock-heard, clock-since, OpenedHere, NeverLateOn, SteadyAnyReading, SteadyNeverLate, SteadyTakes}
 use Rattle.model.specs.SteadyAmong.{clock-among, AmongEvents, SteadyAmong, SteadyTakesAmong}
 use Rattle.model.proofs.Bounds.{usable-bounds, fit-usable}
 use Rattle.model.proofs.Simulates.{entered, fit-settings, vetted-ok, one-settings, after-vetted, after-holds, through-zero}

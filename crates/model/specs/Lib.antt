@@ -47,6 +47,7 @@ pub mod ListedStruck
 pub mod BringsBack
 pub mod SameDump
 pub mod SameAnswers
+pub mod SameFromOpening
 pub mod WorkedOnWords
 pub mod ZeroIsThrough
 pub mod VerdictsApart

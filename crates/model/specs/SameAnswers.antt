@@ -1,9 +1,8 @@
 -- Words answer as the rules do. Words that hold a state answer any list of calls as the rules answer it on that state, refusals included,
--- and then hold the state that the rules come to. So do any words where the list starts with an opening that goes through. What is computed
--- on states is therefore what the calls answer on words.
+-- and then hold the state that the rules come to. From an opening on any words do so: specs/SameFromOpening.
 use Prim.Native.Nat.{ℕ}
 use mathlib.Core.Path.{_≡_}
-use mathlib.Core.Bool.{true, cond}
+use mathlib.Core.Bool.{cond}
 use mathlib.Core.List.{List, [], _∷_}
 use mathlib.Core.Option.{some}
 use lib.Dec.{eqb}
@@ -11,9 +10,8 @@ use Rattle.model.specs.declared.Answer.{Answer}
 use Rattle.model.specs.declared.Answer.the-variants.{Refused}
 use Rattle.model.specs.Settings.{settings-of}
 use Rattle.model.specs.Words.{State}
-use Rattle.model.specs.Calls.{Call, Open, Step, step, refusal, unfit, refusals-of, first-met, held-in, reply, after}
+use Rattle.model.specs.Calls.{Call, Step, step, refusal, unfit, refusals-of, first-met, held-in, reply, after}
 use Rattle.model.specs.View.{view}
-use Rattle.model.specs.Codes.{went-through}
 use Rattle.model.specs.Soundness.{Vetted}
 
 -- ---- on a state, by the rules: every refusal but 2 and 3, which come of words
@@ -47,9 +45,3 @@ pub record SameOn (st ws : List ℕ) (t : State) (calls : List Call) : Type 0 wh
 
 abbrev pub SameAnswers : Type 0
 SameAnswers = (st ws : List ℕ) → Vetted st ws → (calls : List Call) → SameOn st ws (held-in (settings-of st) ws) calls
-
--- from an opening on, whatever the words were: the state before it is any
-abbrev pub SameFromOpening : Type 0
-SameFromOpening =
-    (st ws limits starts : List ℕ) → went-through (reply st ws (Open limits starts)) ≡ true
-    → (t : State) (calls : List Call) → SameOn st ws t (Open limits starts ∷ calls)
