@@ -1,25 +1,34 @@
 -- One turn and the end of each loop of src/lib.rt. A loop that tests has an invariant about what is left, `drop i`, and a loop
 -- that stores one about what it has stored and what is left.
-use Prim.Native.Nat.{ℕ, _+_, _<_, _≤_}
+use Prim.Native.Nat.{ℕ, zero, suc, _+_, _<_, _≤_}
 use native.Mathlib.Numerals.{add-one}
 use native.Mathlib.Omega.{arith}
-use mathlib.Core.Path.{_≡_, sym, _∙_}
+use mathlib.Core.Path.{_≡_, sym, _∙_, ap}
 use mathlib.Core.Bool.{Bool, _&&_, and-assoc, and-true}
 use mathlib.Core.List.{List, _++_, append-assoc, append-nil}
 use lib.ListN.{length, getD, set, take, drop, replicate, drop-of-length-le}
 use lib.Seq.{drop-cons, take-all, take-suc-set}
 use lib.Dec.{eqb}
+use lib.Bits.{bitOr, or-zero-l, or-add-and, and-le-r}
+use borrow.Author.Tests.{ne-eqb}
 use Rattle.runs.specs.Words.{zeros, sameWords}
 
 -- ---- zeros_only
-module _ (ws : List ℕ) (i : ℕ) (all : Bool) (h : (all && zeros (drop i ws)) ≡ zeros ws) where
-  pub zeros-on : i < length ws → (all && eqb (getD ws i 0) 0 && zeros (drop (i + 1) ws)) ≡ zeros ws
-  unfolding zeros
-  zeros-on k = let e = rw (drop-cons ws i 0 k) at h in rw (add-one, and-assoc) e
+-- two words together have no bit exactly where neither has one
+no-bit : (a b : ℕ) → eqb (bitOr a b) 0 ≡ (eqb a 0 && eqb b 0)
+no-bit zero b = ap (λ (w : ℕ). eqb w 0) (or-zero-l b)
+no-bit (suc a) b =
+    ne-eqb (bitOr (suc a) b) 0 (λ e. absurd (omega (arith, e, or-add-and (suc a) b, and-le-r (suc a) b)))
+    ∙ sym (rw (ne-eqb (suc a) 0 (λ e. absurd (omega (arith, e)))))
 
-  pub zeros-end : length ws ≤ i → all ≡ zeros ws
+module _ (ws : List ℕ) (i any : ℕ) (h : (eqb any 0 && zeros (drop i ws)) ≡ zeros ws) where
+  pub zeros-on : i < length ws → (eqb (bitOr any (getD ws i 0)) 0 && zeros (drop (i + 1) ws)) ≡ zeros ws
   unfolding zeros
-  zeros-end k = sym (and-true all) ∙ (rw drop-of-length-le at h)
+  zeros-on k = let e = rw (drop-cons ws i 0 k) at h in rw (add-one, no-bit, and-assoc) e
+
+  pub zeros-end : length ws ≤ i → eqb any 0 ≡ zeros ws
+  unfolding zeros
+  zeros-end k = sym (and-true (eqb any 0)) ∙ (rw drop-of-length-le at h)
 
 -- ---- same_words
 module _ (a b : List ℕ) (i : ℕ) (all : Bool) (h : (all && sameWords (drop i a) (drop i b)) ≡ sameWords a b) where

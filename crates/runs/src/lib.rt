@@ -1,22 +1,23 @@
-// Runs of words that mean nothing by themselves. Each loop goes over all its words with no branch inside, and a test keeps a
-// bool and does not leave early: so the compiler makes vector instructions of it, and of clear_words a memset.
+// Runs of words that mean nothing by themselves. Each loop goes over all its words with no branch inside, and a test keeps one
+// value and does not leave early: so the compiler makes vector instructions of it, and of clear_words a memset.
 pub mod moves;
 
 ghost use mathlib.Core.Path.{_≡_};
 ghost use lib.ListN.{length, replicate};
 ghost use Rattle.runs.specs.Words.{zeros, sameWords};
 
-// Whether every word is 0.
+// Whether every word is 0, that is, whether no word has a bit. One vector instruction gathers the bits of two words; to compare two
+// words with 0 takes four.
 pub fn zeros_only(words: &[u64]) -> bool
     ensures { λ r. ⌜ r ≡ zeros (now (words .entry)) ⌝ }
 {
-    let mut all = true;
+    let mut any = 0u64;
     let mut i = 0;
     while i < words.len() {
-        all = all & (words[i] == 0);
+        any = any | words[i];
         i += 1;
     }
-    all
+    any == 0
 }
 
 // Makes every word 0.
