@@ -48,12 +48,9 @@ pub mod TwiceLimit
 pub mod Growing
 pub mod NotVacuous
 pub mod NotNew
-pub mod EqualPartCases
-pub mod RoundTripCases
 pub mod Untouched
 pub mod EqualPartAmong
 pub mod SteadyWords
-pub mod SteadyCases
 pub mod Unaltered
 pub mod Floors
 pub mod ContainsHash
@@ -68,9 +65,6 @@ pub mod StatementCases
 pub mod BringsBack
 pub mod SameDump
 pub mod OwnDump
-pub mod SameDumpCases
 pub mod SameAnswers
 pub mod WorkedOnWords
 pub mod ToldApart
-pub mod ViewCases
-pub mod PartlyCases

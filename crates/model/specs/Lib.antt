@@ -26,8 +26,6 @@ pub mod RoundTrip
 pub mod TwiceLimit
 pub mod Growing
 pub mod NotNew
-pub mod EqualPartCases
-pub mod RoundTripCases
 pub mod EqualPartAmong
 pub mod Steady
 pub mod SteadyAmong

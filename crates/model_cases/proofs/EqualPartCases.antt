@@ -6,20 +6,20 @@ use mathlib.Core.List.{List, [], _∷_}
 use mathlib.Core.Option.{Option, none, some}
 use lib.Dec.{leb}
 use borrow.Author.Tests.{leb-true, not-true}
 use Rattle.model.specs.declared.Answer.the-variants.{Said}
 use Rattle.model.specs.declared.Verdict.the-variants.{New}
 use Rattle.runs.proofs.Cases.{no, allOf, each-true}
 use Rattle.model.specs.Settings.{usable-at}
 use Rattle.model.specs.Class.{class-of}
 use Rattle.model.specs.Generation.{among, as-read, slots-for}
 use Rattle.model.specs.Book.{together, fair, below-share, entries-of, holders-with, own-after, place-free, pair-free, second-of}
 use Rattle.model.specs.Judge.{Ask, bucket-of}
 use Rattle.model.specs.Codes.{went-through}
 use Rattle.model.specs.Calls.{On, Ticket, judged, taken, taken-batch, ask-of, register-at, reply, compute-rules}
 use Rattle.model.specs.View.{words-after}
 use Rattle.model.specs.EqualPart.{compute-equal-part, Since, since-opening, met, places-beside, Due, answer-due}
-use Rattle.model.specs.EqualPartCases.{compute-words, settings, start, Case, three-parties, another-bucket, answers, heard-of-three, found, yields}
+use Rattle.model_cases.specs.EqualPartCases.{compute-words, settings, start, Case, three-parties, another-bucket, answers, heard-of-three, found, yields}
 use Rattle.model.proofs.EqualPartWords.{equal-part}
 
 -- the conditions as tests, for computing once
 unfoldable tests : Since → Ask → List Bool

@@ -6,22 +6,22 @@ use mathlib.Core.Bool.{true}
 use mathlib.Core.List.{List, [], _∷_, _++_}
 use lib.ListN.{length, replicate}
 use Rattle.runs.specs.Chunks.{flat}
 use Rattle.model.specs.declared.Class.the-variants.{Feeders}
 use Rattle.model.specs.declared.Deliverer.the-variants.{Restored}
 use Rattle.model.specs.declared.Verdict.the-variants.{New, Duplicate}
 use Rattle.model.specs.declared.Answer.{Answer}
 use Rattle.model.specs.declared.Answer.the-variants.{Done, Said, Dumped, Whole, Partly, NoFloor, FloorAt}
 use Rattle.model.specs.Settings.{settings-of, words-needed}
 use Rattle.model.specs.Register.{Ring, generation-at}
 use Rattle.model.specs.Dump.{word-bytes}
 use Rattle.model.specs.RawViews.{deliverer-view}
 use Rattle.model.specs.Words.{State}
 use Rattle.model.specs.Calls.{judged, taken, Ticket, DumpTo, Restore, Floor, Call, Open, On, register-at, held-in, reply, output-after}
 use Rattle.model.specs.SameAnswers.{answers-on, words-left}
 use Rattle.model.specs.BringsBack.{ADump, bytes-of}
 use Rattle.model.specs.SameDump.{all-held, each-held}
 use Rattle.model.proofs.NotVacuous.{compute-all, ask}
-use Rattle.model.proofs.RoundTripCases.{all-small, small-words}
+use Rattle.model_cases.proofs.RoundTripCases.{all-small, small-words}
 
 -- ---- one register: no window, buckets of 2 ms, two positions, so many slots; two places of two pairs for each class. All calls come
 -- after an opening with limits of 20

@@ -8,29 +8,29 @@ use mathlib.Core.List.{List, [], _∷_, _++_}
 use lib.Dec.{leb, lit≤}
 use lib.ListN.{length, replicate}
 use borrow.Author.Tests.{leb-true}
 use Rattle.model.specs.declared.Class.{Class}
 use Rattle.model.specs.declared.Class.the-variants.{Feeders, Peers, Own}
 use Rattle.model.specs.declared.Start.the-variants.{Empty}
 use Rattle.model.specs.declared.Answer.the-variants.{Dumped, Whole}
 use Rattle.runs.proofs.Cases.{both-true}
 use Rattle.model.specs.Numbers.{top64}
 use Rattle.model.specs.Settings.{settings-of, usable-at, words-needed}
 use Rattle.model.specs.Class.{pick}
 use Rattle.model.specs.Book.{Book, together, places-of}
 use Rattle.model.specs.Register.{Register, started}
 use Rattle.model.specs.Dump.{dump-words}
 use Rattle.model.specs.Codes.{went-through}
 use Rattle.model.specs.Words.{State}
 use Rattle.model.specs.Soundness.{Vetted}
 use Rattle.model.specs.Calls.{On, Restore, register-at, held-in, reply, after, compute-rules}
 use Rattle.model.specs.View.{words-after}
-use Rattle.model.specs.EqualPartCases.{compute-words}
+use Rattle.model_cases.specs.EqualPartCases.{compute-words}
 use Rattle.model.specs.RoundTrip.{seconds-in, pairs-with, new-units, RoomFor, EnoughRoom, Words64, Source, written, Target, Returns, touches, none-touches}
-use Rattle.model.specs.RoundTripCases.{source-settings, source-words, output, dump-call, target-settings, target-opening, target-calls, target-words}
+use Rattle.model_cases.specs.RoundTripCases.{source-settings, source-words, output, dump-call, target-settings, target-opening, target-calls, target-words}
 use Rattle.model.specs.BringsBack.{ADump, NewlyOpened, BringsBack}
 use Rattle.model.proofs.Simulates.{vetted-kept}
 use Rattle.model.proofs.RoundTrip.{vetted-seen, round-trip}
 use Rattle.model.proofs.BringsBack.{dump-brings-back}
 
 -- all that words are tested, read and written by, and all rules
 unfoldable compute-all : ℕ

@@ -1,0 +1,6 @@
+pub mod EqualPartCases
+pub mod RoundTripCases
+pub mod SameDumpCases
+pub mod SteadyCases
+pub mod PartlyCases
+pub mod ViewCases

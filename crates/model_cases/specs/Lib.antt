@@ -1,0 +1,2 @@
+pub mod EqualPartCases
+pub mod RoundTripCases
