@@ -17,7 +17,7 @@ test:
 build/libstrikes.a: $(shell hosts/archive sources)
 	@hosts/archive
 
-# The host programs: the register as a program (demo, replay, view, meter, soak), and a small gateway in C and in Rust.
+# The host programs: the register as a program (demo, replay, view, explain, meter, soak), and a small gateway in C and in Rust.
 build/strikes: build/libstrikes.a $(wildcard hosts/*/src/*.rs hosts/*/src/*/*.rs tests/calls/src/*.rs tests/generator/src/*.rs tests/generator/src/*/*.rs)
 	@hosts/build strikes
 build/gateway: build/libstrikes.a include/strikes.h $(wildcard hosts/c/*.c hosts/c/*.h)

@@ -67,6 +67,42 @@
 /* The register is pending, or the judging flag is 0: nothing was altered. */
 #define STRIKES_UNJUDGED 5
 
+/* ---- rules: why a take gives its verdict. They are tried in this order after the sweep that judging makes, and the first that is met is
+   named. T is the class's limit, and units are counted with this draw. */
+
+/* None is met: New. */
+#define STRIKES_RULE_ACCEPTED 0
+/* The register waits for strikes_begin: Unjudged. */
+#define STRIKES_RULE_PENDING 1
+/* The judging flag is 0: Unjudged. */
+#define STRIKES_RULE_FLAG 2
+/* A class holds the fingerprint in the bucket of its stamp: Duplicate. The lowest such class is named beside the rule. */
+#define STRIKES_RULE_HELD 3
+/* The stamp is at or below the floor: Late. */
+#define STRIKES_RULE_FLOOR 4
+/* The stamp lies further behind the reading than the deliverer's window: Late. */
+#define STRIKES_RULE_BEHIND 5
+/* The stamp lies further ahead of the reading than the deliverer's window: Late; Ahead of the batch forms. */
+#define STRIKES_RULE_AHEAD 6
+/* The share book is closed: Full. */
+#define STRIKES_RULE_CLOSED 7
+/* The deliverer holds as many entries as its own share has: Full. */
+#define STRIKES_RULE_OWN_SHARE 8
+/* The class would be above T, and the deliverer is a Relay or a Restored: Full. */
+#define STRIKES_RULE_CLASS_LIMIT 9
+/* The class would be above T, and the deliverer's own units above T divided by the holders: Full. */
+#define STRIKES_RULE_EQUAL_PART 10
+/* The class would be above twice T: Full. */
+#define STRIKES_RULE_TWICE_LIMIT 11
+/* The class has no place left for one more deliverer: Full. */
+#define STRIKES_RULE_PLACES 12
+/* The deliverer's place has no pair left for one more second: Full. */
+#define STRIKES_RULE_PAIRS 13
+/* Another bucket holds the position: Late. */
+#define STRIKES_RULE_POSITION 14
+/* The generation would need more slots than it may have: Full. */
+#define STRIKES_RULE_SLOTS 15
+
 /* ---- codes */
 
 /* A deliverer is a kind and a number: an id, any number, of a Feeder or a Peer; not read of a Relay; the class of a Restored. */
@@ -177,6 +213,16 @@ uint64_t strikes_take(const uint64_t *settings, size_t settings_length, uint64_t
 uint64_t strikes_take_batch(const uint64_t *settings, size_t settings_length, uint64_t *words, size_t words_length,
                             uint64_t register_number, uint64_t fingerprint, uint64_t stamp, uint64_t reading, uint64_t flag,
                             uint64_t kind, uint64_t number, uint64_t *verdict);
+
+/* Why strikes_take gives its verdict on this ticket. rule: the number of the first rule that is met. class_number: the lowest class that
+   holds the ticket where the rule is STRIKES_RULE_HELD, else 0. verdict: the verdict of strikes_take on the same words. The register is
+   read as the sweep of this reading would leave it: what the sweep would drop is not held, and the floor is the one that it would leave.
+   Nothing is altered. strikes_take_batch gives the same verdict, except where the rule is STRIKES_RULE_AHEAD, or STRIKES_RULE_FLOOR and
+   the stamp is past the window's front: then it is Ahead.
+   Refusals: 1 to 4; 1 also for a flag or a deliverer that is not listed. */
+uint64_t strikes_explain(const uint64_t *settings, size_t settings_length, const uint64_t *words, size_t words_length,
+                         uint64_t register_number, uint64_t fingerprint, uint64_t stamp, uint64_t reading, uint64_t flag, uint64_t kind,
+                         uint64_t number, uint64_t *rule, uint64_t *class_number, uint64_t *verdict);
 
 /* held: 1 where the fingerprint is held in any bucket of any class, swept or not, else 0.
    Refusals: 1 to 4. */

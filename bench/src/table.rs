@@ -250,6 +250,31 @@ fn pairs(size: &Size, fill: Fill, dump: Option<&[u8]>, runs: usize) -> Vec<Compa
     }
     all.push(taken("take", Form::Take, size, dump, runs));
     all.push(taken("take_batch", Form::TakeBatch, size, dump, runs));
+    // The Rust names no rules. Its judge goes the same way, up to the share.
+    all.push(repeated(
+        "explain (the Rust's judge)",
+        size,
+        dump,
+        runs,
+        |ours, number, _| {
+            let ask = both::ask(of(number));
+            black_box(raw::explain(
+                &ours.settings,
+                &ours.words,
+                ask.register,
+                ask.fingerprint,
+                ask.stamp,
+                ask.reading,
+                ask.flag,
+                ask.kind,
+                ask.number,
+            ))
+            .expect("sound words");
+        },
+        |book, number, _| {
+            black_box(book.ask(Form::Judge, of(number), Who::Feeder(1)));
+        },
+    ));
     all.push(repeated(
         "contains_hash",
         size,

@@ -4,7 +4,7 @@
     tests/product/faults.py [FAULT ...]
 
 A fault is a list of edits, each a file, an anchor that must stand in it exactly once, and what stands in its place: the faults of
-tests/oracle/faults.py, put into the register. The proofs would refuse each of them, so the copy is run by `rt try`, which proves
+tests/oracle/faults.py, put into the register, and misreadings of what the Rust has not, the rule behind a verdict. The proofs would refuse each of them, so the copy is run by `rt try`, which proves
 nothing; `rt try` compares what crates/replay writes with its file `stdout`. Its interpreter takes no list of this length, so that
 what counts is the program compiled at -O3. Status 0 only if the source without a fault agrees and every fault is noticed.
 """
@@ -21,6 +21,7 @@ FOLDER = tempfile.TemporaryDirectory()
 COPY = Path(FOLDER.name) / "product"
 
 DECIDE = "book/src/decide.rt"
+SEEN = "register/src/peeking.rt"
 GENERATION = "generation/src/lib.rt"
 
 FAULTS = {
@@ -85,6 +86,24 @@ FAULTS = {
     "twice-the-limit-less-one": [(DECIDE, "if 2 * t < units {", "if 2 * t <= units {")],
     "one-pair-too-many": [(DECIDE, "(used < pairs)", "(used <= pairs)")],
     "one-pair-too-few": [(DECIDE, "(used < pairs)", "(used + 1 < pairs)")],
+    # A ticket is explained by the floor of now, and not by the one that its sweep would leave.
+    "explain-floor-before-sweep": [(SEEN, "raised_by(raised_by(raised_by(seen, feeders), peers), own)", "seen")],
+    # What lies before the sweep's end counts as gone, visited or not.
+    "explain-gone-unvisited": [
+        ("ring/src/peeking.rt", "(through.0 - 1 - head.bucket) % (ring as u64) < through.0 - from.0", "true"),
+    ],
+    "explain-own-before-feeders": [
+        (SEEN, "    if holds_after(part, u, rings, seen, Class::Feeders, at, bucket, fp) {\n        return HeldIn::By(Class::Feeders);",
+         "    if holds_after(part, u, rings, seen, Class::Own, at, bucket, fp) {\n        return HeldIn::By(Class::Own);\n    }\n"
+         "    if holds_after(part, u, rings, seen, Class::Feeders, at, bucket, fp) {\n        return HeldIn::By(Class::Feeders);"),
+    ],
+    # The verdict stays, and so the rule alone tells.
+    "explain-class-limit-for-feeders": [
+        (DECIDE, "    if t / holders < own {\n        return Draw::EqualPart;", "    if t / holders < own {\n        return Draw::ClassLimit;"),
+    ],
+    "explain-slots-for-position": [("taking/src/explaining.rt", "Room::Collides => Reason::Position,", "Room::Collides => Reason::Slots,")],
+    # Judge's verdict for take's.
+    "explain-judges-alone": [("taking/src/explaining.rt", "    explain_share(run, s, r, extent, seen, ticket)\n", "    first\n")],
 }
 
 

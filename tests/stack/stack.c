@@ -155,7 +155,8 @@ static void calls_under(uint64_t registers, uint64_t places, uint64_t pairs, uin
         next.settings_length = below(60) ? STRIKES_SETTINGS : 28;
         next.words_length = below(60) ? needed : needed - 1;
         next.out_length = below(10) ? 8 * needed : below(64);
-        int which = below(3) ? is_take + (int)below(2) : (int)below(ENTRIES);
+        static const int tickets[] = {is_take, is_take_batch, is_explain};
+        int which = below(3) ? tickets[below(3)] : (int)below(ENTRIES);
         if (which == is_open && below(10))
             which = is_restore;
         if (which == is_close && below(10))

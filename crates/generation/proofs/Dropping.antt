@@ -2,9 +2,10 @@
 use Prim.Native.Nat.{ℕ, _+_, _-_, _<_, _≤_}
 use native.Mathlib.Omega.{arith}
 use mathlib.Core.Path.{_≡_, sym, _∙_, ap}
+use mathlib.Core.Bool.{true, false, not, _&&_}
 use mathlib.Core.List.{List, []}
 use lib.ListN.{length, getD, replicate, replicate-append-replicate}
-use lib.Dec.{eqb}
+use lib.Dec.{eqb, ltb}
 use borrow.Author.Tests.{eq-eqb, ne-eqb, eqb-true, lt-ltb, le-ltb}
 use Rattle.runs.specs.Words.{pad}
 use Rattle.runs.proofs.Cases.{by-test}
@@ -19,7 +20,7 @@ use Rattle.generation.specs.declared.Generation.{Generation as Leading}
 use Rattle.generation.specs.declared.Dropped.{Dropped}
 use Rattle.generation.specs.declared.Dropped.the-variants.{Nothing, Newest}
 use Rattle.generation.specs.Rules.{drop-says, dropped-in, drop-in-says, swept-at, sweep-says}
-use Rattle.generation.specs.Words.{Leads, led-by, GenerationTurns}
+use Rattle.generation.specs.Words.{Leads, led-by, GenerationReads, GenerationTurns}
 use Rattle.generation.proofs.Looking.{lent-slots, with-lent, slots-part}
 
 -- one that holds nothing is as it would be dropped
@@ -93,3 +94,15 @@ module _ (ws : List ℕ) (through : ℕ) where
   sweep-leaves h S n i = record {
     does = λ g ok is. let p = le-ltb (g .bucket) through (rw is at h) in (rw p is, rw p);
   }
+
+-- with nothing dropped: the test of the words that lead is the test of the generation
+module _ (ws : List ℕ) (through : ℕ) (h : Leading) (leads : Leads ws h) where
+  passed-is : (S : ℕ) (g : Generation) → ws ≡ encode-generation S g → (ltb (h .bucket) through && not (eqb (h .held) 0)) ≡ passed through g
+  unfolding passed
+  passed-is S g is = rw (leads .bucket, leads .held, is)
+
+  pub passed-newest : (ltb (h .bucket) through && not (eqb (h .held) 0)) ≡ true → GenerationReads (λ S. sweep-says through) ws (Newest (h .newest))
+  passed-newest t S n i = record { says = λ g ok is. rw (← passed-is S g is, t, leads .newest, is) }
+
+  pub passed-nothing : (ltb (h .bucket) through && not (eqb (h .held) 0)) ≡ false → GenerationReads (λ S. sweep-says through) ws Nothing
+  passed-nothing t S n i = record { says = λ g ok is. rw (← passed-is S g is, t) }

@@ -236,3 +236,15 @@ pub fn sweep_one(part: &mut [u64], through: Bucket) -> Dropped
     }
     Dropped::Nothing
 }
+
+// The same with nothing dropped: the newest that would go.
+pub fn newest_passed(part: &[u64], through: Bucket) -> Dropped
+    requires { ⌜ generation-head ≤ length (now part) ⌝ }
+    ensures { λ r. ⌜ GenerationReads (λ S. sweep-says (through .0)) (now (part .entry)) r ⌝ }
+{
+    let head = Generation::of(part);
+    if (head.bucket < through.0) & (head.held != 0) {
+        return Dropped::Newest(head.newest);
+    }
+    Dropped::Nothing
+}

@@ -17,9 +17,8 @@ use Rattle.model.specs.Settings.{settings-of, limits-of, usable-at, sett
 use Rattle.model.specs.Book.{Place, together, places-of}
 use Rattle.model.specs.Words.{State}
 use Rattle.model.specs.Judge.{judge, take, take-batch}
-use Rattle.model.specs.Calls.{Asking, Manner, judged, taken, taken-batch, Ticket, Call, Open, On, Kind, Opens, OnOne, Sets, Other, opens, kind, ask-of, register-at}
-use Rattle.model.specs.Calls.{opened, after-judged, after-taken, asked, done-on, step, codes-fit, deed-fits, unfit, is-open, sound, unsound, no-such-register}
-use Rattle.model.specs.Calls.{deed-refusals, own-refusals, held-in, refused, reply, after}
+use Rattle.model.specs.Calls.{Asking, judged, taken, taken-batch, Ticket, Call, Open, On, Kind, Opens, OnOne, Sets, Other, opens, kind, ask-of, register-at}
+use Rattle.model.specs.Calls.{opened, after-judged, after-taken, asked, done-on, step, is-open, sound, held-in, refused, reply, after}
 use Rattle.model.specs.View.{Given, answered, left-by, words-after}
 use Rattle.model.specs.Codes.{went-through}
 use Rattle.model.specs.Soundness.{Vetted}
@@ -28,6 +27,7 @@ use Rattle.model.specs.EqualPart.{OpeningHolds, cost, HoldersKept, Share
 use Rattle.model.proofs.Refusals.{step-through}
 use Rattle.model.proofs.View.{Trimmed, brought-trimmed, kept-are, view-sound}
 use Rattle.model.proofs.Simulates.{refused-words, entered, fit-settings, reply-is, through-zero, simulates}
+use Rattle.model.proofs.NotNew.{same-refusal}
 use Rattle.model.proofs.Units.{Shared, one-of, two-of}
 use Rattle.model.proofs.Sharing.{each-units}
 use Rattle.model.proofs.SharesKept.{Bounded, opened-bounded}
@@ -75,11 +75,6 @@ refused-stays st ws call h =
     let z : false ≡ true = sym h ∙ through in no (cc))
     (λ e. refused-words st ws call e)
 
--- ---- no refusal looks at how a ticket is asked about
-as-refused : (m : Manner) (st ws : List ℕ) (r : ℕ) (a : Asking) → refused st ws (On r (Ticket m a)) ≡ refused st ws (On r (Ticket judged a))
-unfolding refused unfit codes-fit deed-fits unsound is-open no-such-register own-refusals deed-refusals
-as-refused m st ws r a = refl
-
 -- judge answers New: nothing refuses, and the rules judge it New
 pub record JudgedNew (st ws : List ℕ) (r : ℕ) (a : Asking) : Type 0 where
   pub passed : eqb (refused st ws (On r (Ticket judged a))) 0 ≡ true
@@ -98,12 +93,12 @@ module _ (st ws : List ℕ) (r : ℕ) (a : Asking) (passed : eqb (refused st ws 
   pub take-says : reply st ws (On r (Ticket taken a))
       ≡ Said (take (usable-at (settings-of st) r) (settings-of st .shares) (register-at r (held-in (settings-of st) ws)) (held-in (settings-of st) ws .book) (ask-of a) .says)
   unfolding reply step done-on asked after-taken
-  take-says = rw (as-refused taken st ws r a, passed)
+  take-says = rw (same-refusal st ws r a taken judged, passed)
 
   pub take-batch-says : reply st ws (On r (Ticket taken-batch a))
       ≡ Said (take-batch (usable-at (settings-of st) r) (settings-of st .shares) (register-at r (held-in (settings-of st) ws)) (held-in (settings-of st) ws .book) (ask-of a) .says)
   unfolding reply step done-on asked after-taken
-  take-batch-says = rw (as-refused taken-batch st ws r a, passed)
+  take-batch-says = rw (same-refusal st ws r a taken-batch judged, passed)
 
 -- ---- an opening ties the words to what it opens
 pub opening-ties : (ws st : List ℕ) (call : Call) (limits starts : List ℕ) → kind call ≡ Opens limits starts → went-through (reply st ws call) ≡ true

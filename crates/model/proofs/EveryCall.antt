@@ -19,7 +19,8 @@ use Rattle.model.specs.Judge.{Ask}
 use Rattle.model.specs.Words.{State}
 use Rattle.model.specs.Codes.{went-through}
 use Rattle.model.specs.Calls.{Manner, judged, judged-batch, taken, taken-batch, Deed, Ticket, ContainsHash, Begin, Sweep, DumpTo, Restore, Resume, Floor, Pending}
-use Rattle.model.specs.Calls.{SweptBucket, ViewRegister, ViewDeliverer, Call, Open, On, Expire, SetLimits, Close, HeldBy, ClassTotals, no-register, register-at, opened, yes-no, floor-answer}
+use Rattle.model.specs.Calls.{SweptBucket, ViewRegister, Explain, ViewDeliverer, Call, Open, On, Expire, SetLimits, Close, HeldBy, ClassTotals}
+use Rattle.model.specs.Calls.{no-register, register-at, opened, yes-no, floor-answer}
 use Rattle.model.specs.Calls.{Asking, manner-sort, ask-of, reading-of-ask, proven-of, asked, after-judged}
 use Rattle.model.specs.Calls.{after-taken, after-restored, restored, resumed, least-published, class-totals, opens, beyond}
 use Rattle.model.specs.Calls.{deed-fits, deed-refusals, done-on, meaning, codes-fit}
@@ -210,6 +211,7 @@ deed-lawful r Floor = reader refl (λ s t. refl) (λ s t. floor-through (registe
 deed-lawful r Pending = reader refl (λ s t. refl) (λ s t. yes-no-through (register-at r t .pending)) (λ s t. refl)
 deed-lawful r SweptBucket = reader refl (λ s t. refl) (λ s t. refl) (λ s t. refl)
 deed-lawful r (ViewRegister out) = reader refl (λ s t. refl) (λ s t. refl) (λ s t. refl)
+deed-lawful r (Explain a) = reader refl (λ s t. refl) (λ s t. refl) (λ s t. refl)
 
 -- ---- every call
 pub lawful : (call : Call) → Lawful (meaning call)

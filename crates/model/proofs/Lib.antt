@@ -8,6 +8,7 @@ pub mod View
 pub mod Pairs
 pub mod Places
 pub mod Lawful
+pub mod First
 pub mod Refusals
 pub mod Worked
 pub mod Misreadings
@@ -15,6 +16,7 @@ pub mod Choice
 pub mod FloorLaws
 pub mod Struck
 pub mod Visited
+pub mod Peeked
 pub mod Steady
 pub mod Bounds
 pub mod RingsKept
@@ -68,3 +70,5 @@ pub mod OwnDump
 pub mod SameAnswers
 pub mod WorkedOnWords
 pub mod ToldApart
+pub mod Reasons
+pub mod Explained

@@ -4,7 +4,6 @@ use native.Mathlib.Omega.{arith}
 use mathlib.Core.Path.{_≡_, refl, ap}
 use mathlib.Core.Bool.{Bool, true, false, not, _&&_}
 use mathlib.Core.List.{List, [], _∷_}
-use mathlib.Core.Logic.{_⊎_, inl, inr}
 use lib.Dec.{eqb}
 use borrow.Author.Tests.{eqb-true, eqb-false, ne-eqb, not-true}
 use Rattle.model.specs.declared.Answer.{Answer}
@@ -15,8 +14,10 @@ use Rattle.model.specs.Settings.{settings-of}
 use Rattle.model.specs.Words.{State}
 use Rattle.model.specs.Codes.{went-through}
 use Rattle.model.specs.Calls.{Call, step, own-refusals, held-in, Refusal, first-met, refusals, refused, reply, after, output-of, output-after}
-use Rattle.model.specs.Refusals.{in-order, order, First, here, later, NoneMet, nothing, not-this, Refuses}
+use Rattle.model.specs.First.{First, here, later, Named, by-first, by-none}
+use Rattle.model.specs.Refusals.{in-order, order, Refuses}
 use Rattle.model.proofs.Choice.{true-false}
+use Rattle.model.proofs.First.{first-is, is-named, met-or-none}
 use Rattle.model.proofs.EveryCall.{lawful}
 
 -- ---- a step's own answer is no refusal
@@ -31,29 +32,19 @@ no-refusal a n t e = true-false t (ap went-through e)
 -- ---- the first condition that is met, of numbers that are not 0
 data Numbered : List Refusal → Type 0 where
   none-left : Numbered []
-  one-more : {x : Refusal} {xs : List Refusal} → 0 < x .number → Numbered xs → Numbered (x ∷ xs)
-
-first-is : (n : ℕ) (xs : List Refusal) → First n xs → first-met xs ≡ n
-unfolding first-met
-first-is n (x ∷ xs) (here met is) = rw met is
-first-is n (x ∷ xs) (later not-met first) = rw not-met (first-is n xs first)
+  one-more : {x : Refusal} {xs : List Refusal} → 0 < x .names → Numbered xs → Numbered (x ∷ xs)
 
 is-first : (n : ℕ) (xs : List Refusal) → 0 < n → first-met xs ≡ n → First n xs
 unfolding first-met
-is-first n [] h e = absurd (omega arith)
-is-first n (x ∷ xs) h e = by-test (x .met) (λ t. here t (rw t at e)) (λ t. later t (is-first n xs h (rw t at e)))
+is-first n xs h e = by-named (is-named 0 n xs e)
+  where
+    by-named : Named 0 n xs → First n xs
+    by-named (by-first f) = f
+    by-named (by-none none is) = absurd (omega arith)
 
 first-pos : (n : ℕ) (xs : List Refusal) → Numbered xs → First n xs → 0 < n
 first-pos n (x ∷ xs) (one-more h rest) (here met is) = omega arith
 first-pos n (x ∷ xs) (one-more h rest) (later not-met first) = first-pos n xs rest first
-
-met-or-none : (xs : List Refusal) → ((n : ℕ) × First n xs) ⊎ NoneMet xs
-met-or-none [] = inr nothing
-met-or-none (x ∷ xs) = by-test (x .met) (λ t. inl (x .number, here t refl)) (λ t. next (met-or-none xs) t)
-  where
-    next : ((n : ℕ) × First n xs) ⊎ NoneMet xs → x .met ≡ false → ((n : ℕ) × First n (x ∷ xs)) ⊎ NoneMet (x ∷ xs)
-    next (inl (n, f)) t = inl (n, later t f)
-    next (inr rest) t = inr (not-this t rest)
 
 -- numbers that are listed, where no 0 is listed
 no-zero : List ℕ → Bool
@@ -66,8 +57,8 @@ numbered ns [] p o = none-left
 numbered [] (x ∷ xs) p o = no (cc)
 numbered (n ∷ ns) (x ∷ xs) p o =
     let q = both-true (not (eqb n 0)) (no-zero ns) p in
-    by-test (eqb (x .number) n)
-    (λ e. let i = eqb-true (x .number) n e in
+    by-test (eqb (x .names) n)
+    (λ e. let i = eqb-true (x .names) n e in
     let z = eqb-false n 0 (not-true (eqb n 0) (q .0)) in
     one-more {x = x} (omega (arith, z)) (numbered ns xs (q .1) (rw e at o)))
     (λ e. numbered ns (x ∷ xs) (q .1) (rw e at o))
@@ -97,9 +88,9 @@ module _ (st ws : List ℕ) (call : Call) (n : ℕ) where
       is-first n (refusals st ws call) (let k = eqb-false (refused st ws call) 0 (p .1) in let m = p .0 in omega (arith, k)) (p .0)
 
   first-replied : First n (refusals st ws call) → reply st ws call ≡ Refused n
-  unfolding reply refused
+  unfolding reply refused first-met
   first-replied f =
-      let e = first-is n (refusals st ws call) f in
+      let e = first-is 0 n (refusals st ws call) f in
       let h = first-pos n (refusals st ws call) (numbered order (refusals st ws call) positive (ordered st ws call)) f in
       rw (e, ne-eqb n 0 (λ z. omega arith))
 

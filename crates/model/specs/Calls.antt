@@ -6,7 +6,7 @@ use mathlib.Core.Option.{Option, none, some}
 use lib.Dec.{leb, ltb, eqb}
 use lib.ListN.{length, getD, set, take, drop, replicate}
 use Rattle.model.specs.declared.Answer.{Answer}
-use Rattle.model.specs.declared.Answer.the-variants.{Refused, Done, Said, Yes, No, Begun, Already, Dumped, Viewed, Whole, Partly, NoFloor, FloorAt, SweptTo, Entries, Totals}
+use Rattle.model.specs.declared.Answer.the-variants.{Refused, Done, Said, Yes, No, Begun, Already, Dumped, Viewed, Whole, Partly, NoFloor, FloorAt, SweptTo, Entries, Totals, Because}
 use Rattle.model.specs.declared.Settings.{Settings}
 use Rattle.model.specs.Numbers.{compute-numbers}
 use Rattle.model.specs.Settings.{settings-width, settings-of, limits-width, limits-of, limits-fit, settings-fit, usable-at, words-needed, compute-settings}
@@ -18,6 +18,8 @@ use Rattle.model.specs.Register.{Register, any-class, holds-any, sweep, 
 use Rattle.model.specs.Judge.{Ask, Judgement, judge, judge-batch, Taken, take-batch, compute-judge}
 use Rattle.model.specs.Judge.{take as take-ticket}
 use Rattle.model.specs.Dump.{dump-bytes, Dump, read-dump, Restoring, restore, resume, compute-dump}
+use Rattle.model.specs.First.{Rule, rule, first-of}
+use Rattle.model.specs.Reason.{reason, compute-reason}
 use Rattle.model.specs.RawViews.{deliverer-view, register-view, compute-raw-views}
 use Rattle.model.specs.Words.{State, front-spare, unused-width, state-form}
 
@@ -48,6 +50,8 @@ pub data Deed : Type 0 where
   Floor Pending SweptBucket : Deed
   -- the output's words as they are lent
   ViewRegister : List ℕ → Deed
+  -- asked like a take
+  Explain : Asking → Deed
 
 pub data Call : Type 0 where
   -- the limits, and for each of four registers a start's code and floor
@@ -161,13 +165,16 @@ starts-fit s starts =
 unfoldable pub limits-words-fit : List ℕ → Bool
 limits-words-fit limits = eqb (length limits) limits-width && limits-fit (limits-of limits)
 
+-- a ticket's codes
+abbrev pub asking-fits : Asking → Bool
+asking-fits a = flag-fits (a .flag) && deliverer-fits (a .kind) (a .number)
+
 -- a refusal number and whether its condition holds
-pub record Refusal : Type 0 where
-  pub number : ℕ
-  pub met : Bool
+abbrev pub Refusal : Type 0
+Refusal = Rule ℕ
 
 abbrev pub refusal : ℕ → Bool → Refusal
-refusal n b = record { number = n; met = b }
+refusal n b = rule n b
 
 -- 6: "dump while pending", 5: "dump output too short"
 abbrev pub dump-refusals : List ℕ → Register → List Refusal
@@ -255,8 +262,8 @@ shows fits own output writes says = record {
   sort = Plain;
 }
 
-abbrev pub looks : (Settings → ℕ → State → Answer) → Act
-looks says = shows true (λ reg. no-refusals) [] (λ reg. []) says
+abbrev pub looks : Bool → (Settings → ℕ → State → Answer) → Act
+looks fits says = shows fits (λ reg. no-refusals) [] (λ reg. []) says
 
 -- one that alters the state
 abbrev pub alters : Bool → List Refusal → Sort → (Settings → ℕ → State → Step) → Act
@@ -291,8 +298,8 @@ reading-of-ask a = cond (a .judging) (some (a .ms)) none
 unfoldable pub act : Deed → Act
 act (Ticket m a) =
     sweeps-by (reading-of-ask (ask-of a))
-    (alters (flag-fits (a .flag) && deliverer-fits (a .kind) (a .number)) no-refusals (manner-sort m a) (λ s r t. asked s r m (ask-of a) t))
-act (ContainsHash fp) = looks (λ s r t. yes-no (any-class (holds-any (as-read fp)) (register-at r t .rings)))
+    (alters (asking-fits a) no-refusals (manner-sort m a) (λ s r t. asked s r m (ask-of a) t))
+act (ContainsHash fp) = looks true (λ s r t. yes-no (any-class (holds-any (as-read fp)) (register-at r t .rings)))
 act (Begin number) =
     alters true no-refusals Plain
     (λ s r t. record { answer = cond (register-at r t .pending) Begun Already; state = with-register r (begin number (register-at r t)) t })
@@ -303,11 +310,12 @@ act (DumpTo out) = shows true (dump-refusals out) out dump-bytes (λ s r t. Dump
 act (Restore bytes) = alters true (restore-refusals bytes) Restores (λ s r t. restored s r t (read-dump bytes))
 act (Resume bytes flag floor) =
     alters (flag-fits flag) (restore-refusals bytes) Resumes (λ s r t. resumed s r t (proven-of flag floor) (read-dump bytes))
-act Floor = looks (λ s r t. floor-answer (register-at r t .floor))
-act Pending = looks (λ s r t. yes-no (register-at r t .pending))
-act SweptBucket = looks (λ s r t. SweptTo (register-at r t .swept) (published (usable-at s r) (register-at r t .swept)))
+act Floor = looks true (λ s r t. floor-answer (register-at r t .floor))
+act Pending = looks true (λ s r t. yes-no (register-at r t .pending))
+act SweptBucket = looks true (λ s r t. SweptTo (register-at r t .swept) (published (usable-at s r) (register-at r t .swept)))
 act (ViewRegister out) =
     shows true (λ reg. view-refusals out (register-view reg)) out register-view (λ s r t. Viewed (length (register-view (register-at r t))))
+act (Explain a) = looks (asking-fits a) (λ s r t. Because (reason (usable-at s r) (s .shares) (register-at r t) (t .book) (ask-of a)))
 
 unfoldable pub deed-fits : Deed → Bool
 unfolding act
@@ -450,8 +458,8 @@ unsound st ws call = not (is-open call || sound (settings-of st) ws)
 
 -- the number of the first that is met, or 0
 unfoldable pub first-met : List Refusal → ℕ
-first-met [] = 0
-first-met (x ∷ xs) = cond (x .met) (x .number) (first-met xs)
+unfolding first-of
+first-met xs = first-of 0 xs
 
 -- what a state has to say: 4, and the call's own
 abbrev pub refusals-of : Settings → Call → State → List Refusal
@@ -497,5 +505,5 @@ compute-calls = 0
 
 -- the rules of all files
 unfoldable pub compute-rules : ℕ
-unfolding compute-numbers compute-settings compute-class compute-generation compute-book compute-register compute-judge compute-dump compute-codes compute-raw-views compute-calls
+unfolding compute-numbers compute-settings compute-class compute-generation compute-book compute-register compute-judge compute-dump compute-codes compute-raw-views compute-reason compute-calls
 compute-rules = 0

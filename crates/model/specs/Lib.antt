@@ -13,6 +13,8 @@ pub mod RegisterWords
 pub mod Words
 pub mod Most
 pub mod Codes
+pub mod First
+pub mod Reason
 pub mod RawViews
 pub mod Calls
 pub mod View
@@ -49,5 +51,7 @@ pub mod SameFromOpening
 pub mod WorkedOnWords
 pub mod ZeroIsThrough
 pub mod VerdictsApart
+pub mod ReasonsApart
 pub mod TicketsGetVerdicts
 pub mod Octets
+pub mod Explained

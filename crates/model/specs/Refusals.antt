@@ -7,13 +7,14 @@ use mathlib.Core.List.{List, [], _∷_}
 use mathlib.Core.Logic.{_⊎_}
 use lib.Dec.{eqb}
 use Rattle.model.specs.declared.Answer.the-variants.{Refused}
+use Rattle.model.specs.First.{First, NoneMet}
 use Rattle.model.specs.Calls.{Call, Refusal, refusals, reply, after, output-of, output-after}
 
 -- the numbers are some of those listed, in their order
 unfoldable pub in-order : List ℕ → List Refusal → Bool
 in-order ns [] = true
 in-order [] (x ∷ xs) = false
-in-order (n ∷ ns) (x ∷ xs) = cond (eqb (x .number) n) (in-order ns xs) (in-order ns (x ∷ xs))
+in-order (n ∷ ns) (x ∷ xs) = cond (eqb (x .names) n) (in-order ns xs) (in-order ns (x ∷ xs))
 
 -- of a call's own refusals, and of all
 abbrev pub own-order : List ℕ
@@ -21,16 +22,6 @@ own-order = 8 ∷ 6 ∷ 5 ∷ 7 ∷ []
 
 abbrev pub order : List ℕ
 order = 1 ∷ 2 ∷ 3 ∷ 4 ∷ own-order
-
--- n is the number of one whose condition is met, and no earlier one's is
-pub data First (n : ℕ) : List Refusal → Type 0 where
-  here : {x : Refusal} {xs : List Refusal} → x .met ≡ true → x .number ≡ n → First n (x ∷ xs)
-  later : {x : Refusal} {xs : List Refusal} → x .met ≡ false → First n xs → First n (x ∷ xs)
-
--- no condition is met
-pub data NoneMet : List Refusal → Type 0 where
-  nothing : NoneMet []
-  not-this : {x : Refusal} {xs : List Refusal} → x .met ≡ false → NoneMet xs → NoneMet (x ∷ xs)
 
 -- for settings, words and a call of any content
 pub record Refuses (st ws : List ℕ) (call : Call) : Type 0 where

@@ -59,6 +59,27 @@ pub enum Draw {
     Pairs,
 }
 
+// The rule that gives a take's verdict, in the order in which the rules are tried; `Accepted` where none stands against the ticket.
+pub enum Reason {
+    Accepted,
+    Pending,
+    Flag,
+    // The lowest class that holds the ticket.
+    Held(Class),
+    Floor,
+    Behind,
+    Ahead,
+    Closed,
+    OwnShare,
+    ClassLimit,
+    EqualPart,
+    TwiceLimit,
+    Places,
+    Pairs,
+    Position,
+    Slots,
+}
+
 // What a call answers.
 pub enum Answer {
     // The refusal number alone.
@@ -84,6 +105,8 @@ pub enum Answer {
     Entries(u64),
     // A class's entries, holders, units and `expired`.
     Totals(u64, u64, u64, u64),
+    // The rule that gives a take's verdict.
+    Because(Reason),
 }
 
 // Clock milliseconds.

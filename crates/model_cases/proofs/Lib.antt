@@ -4,3 +4,4 @@ pub mod SameDumpCases
 pub mod SteadyCases
 pub mod PartlyCases
 pub mod ViewCases
+pub mod ReasonCases

@@ -1,11 +1,12 @@
 // The codes that a host hands in, tested and read, and the numbers that answers go out as.
 use model::Class;
 use model::Deliverer;
+use model::Reason;
 use model::Start;
 use model::Verdict;
 ghost use mathlib.Core.Path.{_≡_};
 ghost use Rattle.model.specs.Class.{class-number as number-of-class, class-fits as listed-class, class-at as class-with, class-of as class-for, deliverer-fits as listed-deliverer, deliverer-of as deliverer-with};
-ghost use Rattle.model.specs.Codes.{flag-fits as listed-flag, start-fits as listed-start, start-of as start-with, verdict-number as number-of-verdict};
+ghost use Rattle.model.specs.Codes.{flag-fits as listed-flag, start-fits as listed-start, start-of as start-with, verdict-number as number-of-verdict, reason-number as number-of-reason, reason-class as class-of-reason, reason-verdict as verdict-of-reason};
 
 // The kinds of deliverers.
 pub const FEEDER: u64 = 0;
@@ -111,5 +112,76 @@ pub fn verdict_number(verdict: Verdict) -> u64
         Verdict::Ahead => 3,
         Verdict::Full => 4,
         Verdict::Unjudged => 5,
+    }
+}
+
+pub fn reason_number(reason: Reason) -> u64
+    ensures { λ r. ⌜ r ≡ number-of-reason reason ⌝ }
+{
+    match reason {
+        Reason::Accepted => 0,
+        Reason::Pending => 1,
+        Reason::Flag => 2,
+        Reason::Held(_) => 3,
+        Reason::Floor => 4,
+        Reason::Behind => 5,
+        Reason::Ahead => 6,
+        Reason::Closed => 7,
+        Reason::OwnShare => 8,
+        Reason::ClassLimit => 9,
+        Reason::EqualPart => 10,
+        Reason::TwiceLimit => 11,
+        Reason::Places => 12,
+        Reason::Pairs => 13,
+        Reason::Position => 14,
+        Reason::Slots => 15,
+    }
+}
+
+// The number of the class that holds the ticket; 0 where another rule is named.
+pub fn reason_class(reason: Reason) -> u64
+    ensures { λ r. ⌜ r ≡ class-of-reason reason ⌝ }
+{
+    match reason {
+        Reason::Accepted => 0,
+        Reason::Pending => 0,
+        Reason::Flag => 0,
+        Reason::Held(class) => class_number(class),
+        Reason::Floor => 0,
+        Reason::Behind => 0,
+        Reason::Ahead => 0,
+        Reason::Closed => 0,
+        Reason::OwnShare => 0,
+        Reason::ClassLimit => 0,
+        Reason::EqualPart => 0,
+        Reason::TwiceLimit => 0,
+        Reason::Places => 0,
+        Reason::Pairs => 0,
+        Reason::Position => 0,
+        Reason::Slots => 0,
+    }
+}
+
+// The verdict that take gives by a rule.
+pub fn reason_verdict(reason: Reason) -> Verdict
+    ensures { λ r. ⌜ r ≡ verdict-of-reason reason ⌝ }
+{
+    match reason {
+        Reason::Accepted => Verdict::New,
+        Reason::Pending => Verdict::Unjudged,
+        Reason::Flag => Verdict::Unjudged,
+        Reason::Held(_) => Verdict::Duplicate,
+        Reason::Floor => Verdict::Late,
+        Reason::Behind => Verdict::Late,
+        Reason::Ahead => Verdict::Late,
+        Reason::Closed => Verdict::Full,
+        Reason::OwnShare => Verdict::Full,
+        Reason::ClassLimit => Verdict::Full,
+        Reason::EqualPart => Verdict::Full,
+        Reason::TwiceLimit => Verdict::Full,
+        Reason::Places => Verdict::Full,
+        Reason::Pairs => Verdict::Full,
+        Reason::Position => Verdict::Late,
+        Reason::Slots => Verdict::Full,
     }
 }

@@ -51,7 +51,7 @@ module _ (u : Usable) where
   class-words c a through ws last t w = still-words u ws last (class-ok c a through) t w
 
   -- ---- all three
-  all-three : (a through : ℕ) (reg : Register)
+  pub all-three : (a through : ℕ) (reg : Register)
       → swept-to through (swept-class Own a through (swept-class Peers a through (swept-class Feeders a through reg))) ≡ sweep-rings a through reg
   unfolding sweep-rings
   all-three a through reg =
@@ -89,15 +89,15 @@ module _ (u : Usable) where
 
   -- ---- sweep: the three ways
   module _ (ms : ℕ) where
-    idle : (reg : Register) → reg .pending ≡ true → reg ≡ sweep u ms reg
+    pub idle : (reg : Register) → reg .pending ≡ true → reg ≡ sweep u ms reg
     unfolding sweep
     idle reg e = rw e
 
-    back : (reg : Register) → reg .pending ≡ false → leb (through-of u ms) (reg .swept) ≡ true → swept-to (through-of u ms) reg ≡ sweep u ms reg
+    pub back : (reg : Register) → reg .pending ≡ false → leb (through-of u ms) (reg .swept) ≡ true → swept-to (through-of u ms) reg ≡ sweep u ms reg
     unfolding sweep
     back reg e t = rw (e, t)
 
-    on : (reg : Register) → reg .pending ≡ false → leb (through-of u ms) (reg .swept) ≡ false
+    pub on : (reg : Register) → reg .pending ≡ false → leb (through-of u ms) (reg .swept) ≡ false
         → sweep-rings (max (reg .swept) (through-of u ms - ring-of u)) (through-of u ms) reg ≡ sweep u ms reg
     unfolding sweep
     on reg e t = rw (e, t)

@@ -4,6 +4,7 @@ mod extents;
 mod forgetting;
 pub mod heading;
 mod judging;
+mod peeking;
 mod rings;
 mod sweeping;
 
@@ -13,6 +14,10 @@ pub use forgetting::raise_to_dumped;
 pub use judging::Ask;
 pub use judging::judge;
 pub use judging::judge_batch;
+pub use peeking::Seen;
+pub use peeking::judge_after;
+pub use peeking::room_after;
+pub use peeking::see;
 pub use rings::contains_hash;
 pub use rings::room;
 pub use rings::strike;

@@ -16,7 +16,7 @@ ghost use Rattle.model.specs.Register.{sweep-rings as swept-rings, sweep as swe
 ghost use Rattle.register.specs.Words.{RegisterWords, RegisterTurns, RingsOf};
 
 // The bucket that a sweep starts from: the one swept last, or a whole ring back where the clock has moved further than that.
-fn sweep_from(swept: Bucket, through: Bucket, ring: u64) -> Bucket
+pub(crate) fn sweep_from(swept: Bucket, through: Bucket, ring: u64) -> Bucket
     requires { ⌜ swept .0 < through .0 ⌝ }
     ensures { λ r. ⌜ r .0 ≡ max (swept .0) (through .0 - ring) ⌝ }
 {

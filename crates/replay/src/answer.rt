@@ -70,12 +70,18 @@ fn put_two(text: &mut [u8; 4096], a: u64, b: u64) -> usize
     put(text, at, b)
 }
 
+fn put_three(text: &mut [u8; 4096], a: u64, b: u64, c: u64) -> usize
+    ensures { λ r. ⌜ (0 < r) × (r ≤ 84) ⌝ }
+{
+    let at = put_two(text, a, b);
+    put(text, at, c)
+}
+
 fn put_four(text: &mut [u8; 4096], a: u64, b: u64, c: u64, d: u64) -> usize
     ensures { λ r. ⌜ (0 < r) × (r ≤ 105) ⌝ }
 {
-    let at = put_two(text, a, b);
-    let next = put(text, at, c);
-    put(text, next, d)
+    let at = put_three(text, a, b, c);
+    put(text, at, d)
 }
 
 // Puts the numbers of an answer: 0 or the refusal number, and the out numbers.
@@ -104,6 +110,12 @@ fn put_answer(answer: Answer, text: &mut [u8; 4096]) -> usize
             holders,
             units,
             expired,
+        ),
+        Answer::Because(reason) => put_three(
+            text,
+            codes::reason_number(reason),
+            codes::reason_class(reason),
+            codes::verdict_number(codes::reason_verdict(reason)),
         ),
     }
 }

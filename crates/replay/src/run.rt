@@ -49,6 +49,8 @@ const VIEW_REGISTER: u64 = 20;
 
 const VIEW_DELIVERER: u64 = 21;
 
+const EXPLAIN: u64 = 22;
+
 const LEND: u64 = 101;
 
 const SETTINGS: u64 = 102;
@@ -211,6 +213,7 @@ fn call(
                 let n = output_length(a[2], a[3], view.len());
                 strikes::view_deliverer(s, words, a[0], a[1], &mut view[0..n])
             }
+            EXPLAIN => strikes::explain(s, words, a[0], a[1], a[2], a[3], a[4], a[5], a[6]),
             _ => return Said::Unread,
         },
     )

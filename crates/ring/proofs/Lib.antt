@@ -2,3 +2,4 @@ pub mod Positions
 pub mod Finding
 pub mod Striking
 pub mod Sweeping
+pub mod Foreseen

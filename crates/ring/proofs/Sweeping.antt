@@ -4,7 +4,6 @@ use Prim.Native.Nat.{ℕ, zero, suc, _+_, _-_, _%_, _<_, _≤_, max}
 use native.Mathlib.Numerals.{add-one}
 use native.Mathlib.Omega.{arith}
 use mathlib.Core.Path.{_≡_, refl, ap, sym, subst, _∙_}
-use mathlib.Core.Bool.{true, false}
 use mathlib.Core.List.{List}
 use mathlib.Core.Option.{Option, none, some}
 use lib.ListN.{length}
@@ -14,6 +13,7 @@ use Rattle.model.specs.Numbers.{raise}
 use Rattle.model.specs.Generation.{Generation, empty, dropped}
 use Rattle.model.specs.Register.{Ring, generation-at, with-generation, passed, Swept, visit, visits, sweep-ring}
 use Rattle.model.proofs.RingsKept.{visit-ok}
+use Rattle.model.proofs.Peeked.{visit-passed, visit-left}
 use Rattle.generation.specs.declared.Dropped.{Dropped}
 use Rattle.generation.specs.declared.Dropped.the-variants.{Nothing, Newest}
 use Rattle.generation.specs.Rules.{swept-at, sweep-says, went}
@@ -29,12 +29,12 @@ pub newest-both : (a b : Dropped) {n m r : ℕ} → a ≡ Newest n → b ≡ New
 newest-both a b p q e = rw (p, q, e)
 
 -- ---- one visit
-went-raised : (floor : Option ℕ) (m : ℕ) → went (raise floor m) ≡ newest-of (went floor) (Newest m)
+pub went-raised : (floor : Option ℕ) (m : ℕ) → went (raise floor m) ≡ newest-of (went floor) (Newest m)
 unfolding raise
 went-raised none m = refl
 went-raised (some f) m = refl
 
-went-nothing : (floor : Option ℕ) → went floor ≡ newest-of (went floor) Nothing
+pub went-nothing : (floor : Option ℕ) → went floor ≡ newest-of (went floor) Nothing
 went-nothing none = refl
 went-nothing (some f) = refl
 
@@ -42,24 +42,15 @@ module _ (through b : ℕ) (w : Swept) where
   abbrev there : Generation
   there = generation-at (w .ring) b
 
-  visit-passed : passed through there ≡ true
-      → visit through b w ≡ record { floor = raise (w .floor) (there .newest); ring = with-generation (w .ring) b (dropped there) }
-  unfolding visit
-  visit-passed e = rw e
-
-  visit-left : passed through there ≡ false → visit through b w ≡ w
-  unfolding visit
-  visit-left e = rw e
-
   visit-ring : with-generation (w .ring) b (swept-at through there) ≡ visit through b w .ring
   visit-ring =
-      by-test (passed through there) (λ e. rw (visit-passed e, e))
-      (λ e. rw (visit-left e, e) (set-getD (w .ring) (b % length (w .ring)) empty))
+      by-test (passed through there) (λ e. rw (visit-passed through b w e, e))
+      (λ e. rw (visit-left through b w e, e) (set-getD (w .ring) (b % length (w .ring)) empty))
 
   visit-floor : newest-of (went (w .floor)) (sweep-says through there) ≡ went (visit through b w .floor)
   visit-floor =
-      by-test (passed through there) (λ e. rw (visit-passed e, e) (sym (went-raised (w .floor) (there .newest))))
-      (λ e. rw (visit-left e, e) (sym (went-nothing (w .floor))))
+      by-test (passed through there) (λ e. rw (visit-passed through b w e, e) (sym (went-raised (w .floor) (there .newest))))
+      (λ e. rw (visit-left through b w e, e) (sym (went-nothing (w .floor))))
 
   visit-fine : (S n : ℕ) → places S n .Ok (w .ring) → places S n .Ok (visit through b w .ring)
   visit-fine S n ok = of-placed S n _ (visit-ok S n through b w (placed S n (w .ring) ok))

@@ -1,10 +1,15 @@
 // A class's ring: for each position a generation, in one run of words. Bucket b is at position b mod ring. A ring is handed
 // over as its words, the most slots of a generation, and the number of its positions.
+mod peeking;
+
 use generation::Dropped;
 use generation::Generation;
 use model::Bucket;
 use model::Room;
 use numbers::capped;
+pub use peeking::contains_after;
+pub use peeking::newest_passed;
+pub use peeking::room_after;
 ghost use mathlib.Core.Path.{_≡_};
 ghost use Prim.Native.Nat.{_≤_, _<_};
 ghost use Rattle.runs.specs.Combine.{testAll};

@@ -14,16 +14,16 @@ use Rattle.runs.proofs.Parts.{Part}
 use Rattle.runs.proofs.Turns.{part-is}
 use Rattle.model.specs.Settings.{settings-of, words-needed}
 use Rattle.model.specs.Words.{State, Front, FrontOk, encode-front, state-form}
-use Rattle.model.specs.Calls.{Deed, Call, On, deed-refusals, deed-fits, done-on, step, refused, register-at, held-in, codes-fit}
+use Rattle.model.specs.Calls.{Deed, Call, On, deed-refusals, deed-fits, done-on, step, refused, reply, register-at, held-in, codes-fit}
 use Rattle.model.proofs.Words.{state-exact, state-wide}
 use Rattle.model.proofs.Parts.{front-part, front-of, with-front}
-use Rattle.taking.specs.Words.{RunWords, StateTurns}
+use Rattle.taking.specs.Words.{RunWords, StateReads, StateTurns}
 use Rattle.vet.specs.declared.Entry.{Entry}
 use Rattle.vet.specs.Entries.{EntersWithin}
 use Rattle.strikes.specs.Admitted.{vets}
 use Rattle.strikes.specs.Calls.{Told}
 use Rattle.strikes.specs.Entries.{ByBook, ByRegister}
-use Rattle.strikes.proofs.Through.{Entered, lent, past-words, lent-part, refused-reply, through-part}
+use Rattle.strikes.proofs.Through.{Entered, lent, past-words, lent-part, refused-reply, through-part, read-part}
 use Rattle.strikes.proofs.Admitting.{first-own, vets-pass, admits-pass, refused-early, refused-own, OnBook, book-early, book-never}
 
 -- all of it is a part of itself
@@ -79,11 +79,25 @@ module _ {st ws : List ℕ} {v : ℕ} {e : Entry} (n : EntersWithin st ws v e) (
         let q = through-part st ws call none may (whole-part own) 0 (e .need) refl (omega arith) t answer a b in
         record { answer = q .0; words = q .1 }
 
+    -- the same of one that only reads
+    answered : (call : Call) → refused st ws call ≡ 0 → {R : Type 0} {out : State → R} {x : R} (answer : R → Answer)
+        → ((t : State) → step s call t .answer ≡ answer (out t)) → StateReads s out (run-of e ws) x → answer x ≡ reply st ws call
+    answered call none {out} {x} answer says reads =
+        let own = settings-of st in
+        let w = state-wide own (may .fit) in
+        let d = n .ready z .need in
+        let t = subst (λ (y : Settings). StateReads y out (run-of e ws) x) read reads in
+        let a = subst (λ (y : Settings). step y call (held-in own ws) .answer ≡ answer (out (held-in own ws))) read (says (held-in own ws)) in
+        read-part st ws call none (λ (y : State). y) may (whole-part own) 0 (e .need) refl (omega arith) t answer a
+
 -- ---- on a register
 module _ {st ws : List ℕ} {codes : Bool} {r : ℕ} {e : Entry} (by : ByRegister st ws codes r e) where
   pub run-refused : (e .refusal ≡ 0 → ⊥) → {deed : Deed} → codes ≡ deed-fits deed → Told st ws (On r deed) (Refused (e .refusal)) ws
   run-refused h {deed} same =
       let q = refused-reply st ws (On r deed) _ (refused-early st ws codes r deed same _ (by .enters .refusal) h) h in record { answer = q .0; words = q .1 }
+
+  pub read-run-refused : (e .refusal ≡ 0 → ⊥) → (deed : Deed) → codes ≡ deed-fits deed → Refused (e .refusal) ≡ reply st ws (On r deed)
+  read-run-refused h deed same = run-refused h same .answer
 
   module _ (z : e .refusal ≡ 0) where
     may-run : Entered (settings-of st) ws
@@ -108,6 +122,13 @@ module _ {st ws : List ℕ} {codes : Bool} {r : ℕ} {e : Entry} (by : ByRegiste
       unfolding step
       told-whole read never answer says leaves turn =
           carried (by .enters) z may-run read (On r deed) (refused-now ∙ never (held-in (settings-of st) ws)) answer says leaves turn
+
+      pub told-seen : {s : Settings} → s ≡ settings-of st → ((t : State) → first-own (deed-refusals (register-at r t) deed) ≡ 0)
+          → {R : Type 0} {out : State → R} {v : R} (answer : R → Answer) → ((t : State) → done-on s r deed t .answer ≡ answer (out t))
+          → StateReads s out (run-of e ws) v → answer v ≡ reply st ws (On r deed)
+      unfolding step
+      told-seen read never answer says reads =
+          answered (by .enters) z may-run read (On r deed) (refused-now ∙ never (held-in (settings-of st) ws)) answer says reads
 
 -- ---- on the book
 module _ {st ws : List ℕ} {codes : Bool} {e : Entry} (by : ByBook st ws codes e) where

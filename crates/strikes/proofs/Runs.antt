@@ -8,26 +8,28 @@ use lib.ListN.{length, take, drop}
 use borrow.Author.Tests.{eqb-true}
 use Rattle.runs.proofs.Cases.{both-true}
 use Rattle.runs.specs.Turns.{Turns, silent}
-use Rattle.model.specs.declared.Answer.the-variants.{Done, Said}
+use Rattle.model.specs.declared.Answer.the-variants.{Done, Said, Because}
 use Rattle.model.specs.declared.Limits.{Limits}
+use Rattle.model.specs.declared.Reason.{Reason}
 use Rattle.model.specs.declared.Settings.{Settings}
 use Rattle.model.specs.declared.Verdict.{Verdict}
 use Rattle.model.specs.Settings.{settings-of, limits-width, limits-of}
 use Rattle.model.specs.Book.{closed-book, with-limits}
 use Rattle.model.specs.Judge.{Ask}
 use Rattle.model.specs.Words.{State, FrontOk, encode-front}
-use Rattle.model.specs.Calls.{Asking, Manner, taken, taken-batch, On, Ticket, Expire, SetLimits, Close, deed-fits, codes-fit, limits-words-fit}
-use Rattle.model.specs.Calls.{deed-refusals, first-met, done-on, ask-of, asked, after-taken, step, is-open, no-such-register, own-refusals}
+use Rattle.model.specs.Calls.{Asking, Manner, taken, taken-batch, On, Ticket, Explain, Expire, SetLimits, Close, deed-fits, codes-fit, limits-words-fit}
+use Rattle.model.specs.Calls.{deed-refusals, first-met, done-on, ask-of, asked, after-taken, step, reply, is-open, no-such-register, own-refusals}
 use Rattle.book.specs.FrontRules.{limited, shut}
 use Rattle.register.specs.Rules.{asked-by}
 use Rattle.taking.specs.Rules.{take-says, take-batch-says}
-use Rattle.taking.specs.Words.{StateTurns}
+use Rattle.taking.specs.Reasons.{reason-at}
+use Rattle.taking.specs.Words.{StateReads, StateTurns}
 use Rattle.vet.specs.declared.Entry.{Entry}
 use Rattle.strikes.specs.declared.Ticket.{Ticket as Handed}
 use Rattle.strikes.specs.Calls.{Told}
 use Rattle.strikes.specs.Entries.{ByBook, ByRegister, Asks}
 use Rattle.strikes.proofs.Admitting.{first-own, OnBook}
-use Rattle.strikes.proofs.OnWhole.{run-of, put-run, codes-there, told-whole, told-run, told-front}
+use Rattle.strikes.proofs.OnWhole.{run-of, put-run, codes-there, told-whole, told-seen, told-run, told-front}
 
 -- ---- a ticket that is taken
 -- what is told in a manner in which the verdict is out
@@ -50,6 +52,14 @@ was-taken = takes taken take-says (λ s r a x. refl)
 pub was-taken-batch : Takes taken-batch take-batch-says
 unfolding asked after-taken
 was-taken-batch = takes taken-batch take-batch-says (λ s r a x. refl)
+
+-- ---- the rule behind its verdict
+pub was-explained : (st ws : List ℕ) (r : ℕ) (e : Entry) (s : Settings) (a : Asking) (t : Handed) (v : Reason)
+    → ByRegister st ws (t .listed) r e → e .refusal ≡ 0 → s ≡ settings-of st → Asks a t
+    → StateReads s (reason-at s r (asked-by (t .ask))) (run-of e ws) v → Because v ≡ reply st ws (On r (Explain a))
+unfolding deed-fits deed-refusals first-own first-met done-on reason-at
+was-explained st ws r e s a t v by z read asks reads =
+    told-seen by z (Explain a) (asks .listed) read (λ x. refl) Because (λ x. rw (asks .ask)) reads
 
 -- ---- calls on the book
 pub closes : OnBook Close

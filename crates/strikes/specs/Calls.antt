@@ -5,12 +5,17 @@ use mathlib.Core.Bool.{Bool, cond}
 use mathlib.Core.List.{List}
 use Rattle.model.specs.declared.Answer.{Answer}
 use Rattle.model.specs.declared.Answer.the-variants.{Whole, Partly}
-use Rattle.model.specs.Calls.{Manner, Ticket, Call, On, reply, after, output-after}
+use Rattle.model.specs.Calls.{Manner, Ticket, Explain, Call, On, reply, after, output-after}
 
 -- a ticket on a register, with every number as the host passes it
 abbrev pub asking : Manner → ℕ → ℕ → ℕ → ℕ → ℕ → ℕ → ℕ → Call
 asking m register fp stamp reading flag kind number =
     On register (Ticket m (record { fp = fp; stamp = stamp; ms = reading; flag = flag; kind = kind; number = number }))
+
+-- the question about the rule behind its verdict
+abbrev pub explaining : ℕ → ℕ → ℕ → ℕ → ℕ → ℕ → ℕ → Call
+explaining register fp stamp reading flag kind number =
+    On register (Explain (record { fp = fp; stamp = stamp; ms = reading; flag = flag; kind = kind; number = number }))
 
 -- what a call tells and leaves: the reply, and every lent word, are those of the rules, refusals included
 pub record Told (st ws : List ℕ) (call : Call) (a : Answer) (left : List ℕ) : Type 0 where

@@ -18,7 +18,7 @@ ghost use lib.ListN.{length};
 ghost use Rattle.model.specs.Calls.{judged, judged-batch, taken, taken-batch, On, Open, Close, Expire, SetLimits, HeldBy, ClassTotals, Begin, Sweep, ContainsHash, DumpTo, Restore, Resume, Floor, Pending, SweptBucket, ViewRegister, ViewDeliverer, yes-no, reply};
 ghost use Rattle.register.specs.Words.{RegisterWords};
 ghost use Rattle.strikes.specs.Admitted.{six-then-five, DumpTried};
-ghost use Rattle.strikes.specs.Calls.{asking, Told, ToldOutput, restore-answer};
+ghost use Rattle.strikes.specs.Calls.{asking, explaining, Told, ToldOutput, restore-answer};
 ghost use Rattle.strikes.specs.Entries.{ByBook, ByRegister, ByOpening, AtRegister, AtClass, Asks};
 
 // Where a call on one register finds its words: the first refusal that was met, or 0, and then the register's settings and part.
@@ -322,6 +322,30 @@ pub fn take_batch(
     let need = e.need;
     let s = bounds::settings_of(settings);
     Answer::Said(taking::take_batch(&mut words[0..need], s, register as usize, ticket.ask))
+}
+
+// The rule that gives the verdict of a take of this ticket, after the sweep that judge would make. The words are only read.
+pub fn explain(
+    settings: &[u64],
+    words: &[u64],
+    register: u64,
+    fp: u64,
+    stamp: u64,
+    reading: u64,
+    flag: u64,
+    kind: u64,
+    number: u64,
+) -> Answer
+    ensures { λ a. ⌜ a ≡ reply (now (settings .entry)) (now (words .entry)) (explaining register fp stamp reading flag kind number) ⌝ }
+{
+    let ticket = ticket_of(fp, stamp, reading, flag, kind, number);
+    let e = admit(settings, words, ticket.listed, register);
+    if e.refusal != 0 {
+        return Answer::Refused(e.refusal);
+    }
+    let need = e.need;
+    let s = bounds::settings_of(settings);
+    Answer::Because(taking::explain(&words[0..need], s, register as usize, ticket.ask))
 }
 
 // Closes the share book: every draw from now on is refused.

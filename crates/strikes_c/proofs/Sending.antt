@@ -6,11 +6,13 @@ use mathlib.Core.List.{List, [], _∷_}
 use lib.ListN.{length, getD, take, length-take, List·getD-eq-default}
 use lib.Seq.{getD-take}
 use Rattle.model.specs.declared.Answer.{Answer}
-use Rattle.model.specs.Codes.{answer-number, answer-values}
+use Rattle.model.specs.declared.Reason.{Reason}
+use Rattle.model.specs.declared.Verdict.{Verdict}
+use Rattle.model.specs.Codes.{verdict-number, reason-number, reason-class, reason-verdict, answer-number, answer-values}
 use Rattle.model.specs.Calls.{Call, reply}
 use Rattle.strikes.specs.Calls.{Told, ToldOutput}
 use Rattle.strikes_c.specs.declared.sent.Sent.{Sent}
-use Rattle.strikes_c.specs.Out.{value-out, values-out, Returned, Read, Written, values-of, SentAs}
+use Rattle.strikes_c.specs.Out.{value-out, values-out, Returned, Read, Written, values-of, sent-reason, SentAs}
 
 -- ---- one value of those that are there
 pub none-there : (n k : ℕ) (xs : List ℕ) (old : ℕ) → n ≤ k → old ≡ getD (take n xs) k old
@@ -24,6 +26,11 @@ one-there n k xs old h = sym (getD-take n xs k old h)
 -- ---- one answer, by the numbers made of it
 pub as-sent : {a b : Answer} {s t : Sent} → a ≡ b → s ≡ t → SentAs b t → SentAs a s
 as-sent p q h = record { number = rw (p, q) (h .number); values = rw (p, q) (h .values); few = rw q (h .few); rest = rw q (h .rest) }
+
+-- a rule, by its three numbers
+pub reason-sent : (x : Reason) (v : Verdict) (n c k : ℕ) (s : Sent) → n ≡ reason-number x → c ≡ reason-class x → v ≡ reason-verdict x → k ≡ verdict-number v
+    → s ≡ record { status = 0; count = 3; first = n; second = c; third = k; fourth = 0 } → s ≡ sent-reason x
+reason-sent x v n c k s number class verdict told is = is ∙ rw (number, class, told, verdict)
 
 -- ---- the out numbers, by the values made of the answer
 abbrev pub outs : ℕ → List ℕ → List ℕ → List ℕ

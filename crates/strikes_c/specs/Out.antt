@@ -5,8 +5,9 @@ use mathlib.Core.Bool.{cond}
 use mathlib.Core.List.{List, [], _∷_, _++_}
 use lib.ListN.{getD, take, replicate}
 use Rattle.model.specs.declared.Answer.{Answer}
+use Rattle.model.specs.declared.Reason.{Reason}
 use Rattle.model.specs.Settings.{settings-of, words-needed}
-use Rattle.model.specs.Codes.{answer-number, answer-values}
+use Rattle.model.specs.Codes.{verdict-number, reason-number, reason-class, reason-verdict, answer-number, answer-values}
 use Rattle.model.specs.Calls.{Call, settings-words-fit, reply, after, output-after}
 use Rattle.strikes_c.specs.declared.sent.Sent.{Sent}
 
@@ -39,6 +40,17 @@ pub record Written (st ws : List ℕ) (call : Call) (n : ℕ) (left olds news : 
 -- ---- an answer as numbers
 abbrev pub values-of : Sent → List ℕ
 values-of s = take (s .count) (s .first ∷ s .second ∷ s .third ∷ s .fourth ∷ [])
+
+-- a rule, the class that it names and take's verdict by it
+abbrev pub sent-reason : Reason → Sent
+sent-reason x = record {
+  status = 0;
+  count = 3;
+  first = reason-number x;
+  second = reason-class x;
+  third = verdict-number (reason-verdict x);
+  fourth = 0;
+}
 
 pub record SentAs (a : Answer) (s : Sent) : Type 0 where
   pub number : s .status ≡ answer-number a

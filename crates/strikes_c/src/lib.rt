@@ -7,7 +7,7 @@ use sent::send;
 ghost use mathlib.Core.Path.{_≡_};
 ghost use mathlib.Core.List.{[], _∷_};
 ghost use Rattle.model.specs.Calls.{judged, judged-batch, taken, taken-batch, On, Open, Expire, Close, SetLimits, HeldBy, ClassTotals, Begin, Sweep, ContainsHash, DumpTo, Restore, Resume, Floor, Pending, SweptBucket, ViewRegister, ViewDeliverer};
-ghost use Rattle.strikes.specs.Calls.{asking};
+ghost use Rattle.strikes.specs.Calls.{asking, explaining};
 ghost use Rattle.strikes_c.specs.Out.{Returned, Read, Written, needed-status, needed-out};
 
 // The words that the settings need, or 1 where they are unfit.
@@ -162,6 +162,41 @@ pub extern "C" fn strikes_take_batch(
         number,
     ));
     *verdict = sent.first_or(*verdict);
+    sent.status
+}
+
+// The rule that gives strikes_take's verdict, the class that it names, and that verdict. The words are only read.
+#[no_mangle]
+pub extern "C" fn strikes_explain(
+    settings: &[u64],
+    words: &[u64],
+    register: u64,
+    fp: u64,
+    stamp: u64,
+    reading: u64,
+    flag: u64,
+    kind: u64,
+    number: u64,
+    rule: &mut u64,
+    class: &mut u64,
+    verdict: &mut u64,
+) -> u64
+    ensures { λ n. ⌜ Read (now (settings .entry)) (now (words .entry)) (explaining register fp stamp reading flag kind number) n (now (rule .entry) ∷ now (class .entry) ∷ now (verdict .entry) ∷ []) (now (rule .exit) ∷ now (class .exit) ∷ now (verdict .exit) ∷ []) ⌝ }
+{
+    let sent = send(strikes::explain(
+        settings,
+        words,
+        register,
+        fp,
+        stamp,
+        reading,
+        flag,
+        kind,
+        number,
+    ));
+    *rule = sent.first_or(*rule);
+    *class = sent.second_or(*class);
+    *verdict = sent.third_or(*verdict);
     sent.status
 }
 

@@ -1,9 +1,10 @@
 // Answers as numbers: what an entry point returns, and the values that go out beside it.
 use model::Answer;
+use model::Reason;
 use numbers::codes;
 ghost use mathlib.Core.Path.{_≡_};
 ghost use lib.ListN.{getD};
-ghost use Rattle.strikes_c.specs.Out.{values-of, SentAs};
+ghost use Rattle.strikes_c.specs.Out.{values-of, sent-reason, SentAs};
 
 // An answer as it goes out: the number returned, how many values there are, and the values. Those past the count are 0.
 pub struct Sent {
@@ -52,6 +53,19 @@ impl Sent {
             first: a,
             second: b,
             third: 0,
+            fourth: 0,
+        }
+    }
+
+    fn three(a: u64, b: u64, c: u64) -> Sent
+        ensures { λ s. ⌜ s ≡ record { status = 0; count = 3; first = a; second = b; third = c; fourth = 0 } ⌝ }
+    {
+        Sent {
+            status: 0,
+            count: 3,
+            first: a,
+            second: b,
+            third: c,
             fourth: 0,
         }
     }
@@ -107,6 +121,16 @@ impl Sent {
     }
 }
 
+// A rule's number, the class that it names, and take's verdict by it.
+fn send_reason(reason: Reason) -> Sent
+    ensures { λ s. ⌜ s ≡ sent-reason reason ⌝ }
+{
+    let number = codes::reason_number(reason);
+    let class = codes::reason_class(reason);
+    let verdict = codes::verdict_number(codes::reason_verdict(reason));
+    Sent::three(number, class, verdict)
+}
+
 // The number and the values of an answer.
 pub(crate) fn send(answer: Answer) -> Sent
     ensures { λ s. ⌜ SentAs answer s ⌝ }
@@ -133,5 +157,6 @@ pub(crate) fn send(answer: Answer) -> Sent
             expired,
         ),
         Answer::Viewed(n) => Sent::one(n),
+        Answer::Because(reason) => send_reason(reason),
     }
 }

@@ -8,6 +8,7 @@ use Rattle.runs.specs.Turns.{Reads, silent}
 use Rattle.runs.proofs.Turns.{part-reads}
 use Rattle.model.specs.declared.Deliverer.{Deliverer}
 use Rattle.model.specs.declared.Draw.{Draw}
+use Rattle.model.specs.declared.Draw.the-variants.{Granted as Had}
 use Rattle.model.specs.declared.Limits.{Limits}
 use Rattle.model.specs.declared.Settings.{Settings}
 use Rattle.model.specs.declared.Shares.{Shares}
@@ -33,15 +34,15 @@ module _ (b : Shares) (who : Deliverer) (sec : ℕ) (ws : List ℕ) (spot : Spot
   pub draw-asks : ClassIs b (class-of who) ws → Found b who ws spot
   draw-asks w = found-of b who sec ws w spot f
 
-  pub share-reads : (l : Limits) (closed : Bool) (d : Draw) (g : Bool)
-      → ClassReads b (class-of who) (λ h. draw-test b l closed who (spot .second) (h .places)) ws d → g ≡ granted d
-      → ClassReads b (class-of who) (λ h. share-in b l closed who sec (h .places)) ws (record { spot = spot; granted = g })
-  share-reads l closed d g t e = record {
+  pub share-reads : (l : Limits) (closed : Bool) (d : Draw)
+      → ClassReads b (class-of who) (λ h. draw-test b l closed who (spot .second) (h .places)) ws d
+      → ClassReads b (class-of who) (λ h. share-in b l closed who sec (h .places)) ws (record { spot = spot; draw = d })
+  share-reads l closed d t = record {
     says = λ h ok is.
         let x = f .says h ok is in
         let y : spot .second ≡ sec = ap (λ (z : Spot). z .second) x in
-        let z : g ≡ granted (draw-test b l closed who sec (h .places)) = e ∙ ap granted (t .says h ok is) ∙ ap (λ (n : ℕ). granted (draw-test b l closed who n (h .places))) y in
-        λ i. record { spot = x i; granted = z i };
+        let z : d ≡ draw-test b l closed who sec (h .places) = t .says h ok is ∙ ap (λ (n : ℕ). draw-test b l closed who n (h .places)) y in
+        λ i. record { spot = x i; draw = z i };
   }
 
 -- ---- the limits and the closing, read of the front
@@ -72,7 +73,7 @@ module _ (s : Settings) (k : Ticket) (ws : List ℕ) (w : RunWords s ws) where
 
   -- ---- entered
   module _ (ticket : Proper k) (spot : Spot) (g : Granted s k ws spot) where
-    seen : record { spot = spot; granted = true } ≡ share-for s k (w .is .value)
+    seen : record { spot = spot; draw = Had } ≡ share-for s k (w .is .value)
     seen = g .says (w .is .value) (w .is .ok) (w .is .words)
 
     spot-seen : spot ≡ spot-of (k .who) (k .second .0) (places-of (class-of (k .who)) (w .is .value .book))
@@ -80,7 +81,7 @@ module _ (s : Settings) (k : Ticket) (ws : List ℕ) (w : RunWords s ws) where
 
     may : true ≡ granted (draw-says (s .shares) (k .who) (k .second .0) (w .is .value .book))
     unfolding draw-says
-    may = ap (λ (z : Share). z .granted) seen
+    may = ap (λ (z : Share). granted (z .draw)) seen
 
     second-seen : spot .second ≡ k .second .0
     second-seen = ap (λ (z : Spot). z .second) spot-seen

@@ -11,6 +11,8 @@ use Rattle.runs.specs.Turns.{silent}
 use Rattle.model.proofs.Room.{the-type}
 use lib.Seq.{getD-set-same, set-getD, set-set}
 use Rattle.runs.proofs.Cases.{by-test, no}
+use Rattle.model.specs.declared.Draw.{Draw}
+use Rattle.model.specs.declared.Draw.the-variants.{Granted as Had, Closed, OwnShare, ClassLimit, EqualPart, TwiceLimit, Places, Pairs}
 use Rattle.model.specs.declared.Room.{Room}
 use Rattle.model.specs.declared.Room.the-variants.{At, Collides, Full as NoSlots}
 use Rattle.model.specs.declared.Settings.{Settings}
@@ -42,6 +44,17 @@ not-at (At j) (inl z) i e = no z
 not-at (At j) (inr z) i e = let n : _≡_ {A = ℕ} 0 2 = z in omega arith
 not-at Collides o i e = no (cc)
 not-at NoSlots o i e = no (cc)
+
+-- a draw that is granted is no other
+granted-is : (d : Draw) → granted d ≡ true → d ≡ Had
+granted-is Had e = refl
+granted-is Closed e = no (cc)
+granted-is OwnShare e = no (cc)
+granted-is ClassLimit e = no (cc)
+granted-is EqualPart e = no (cc)
+granted-is TwiceLimit e = no (cc)
+granted-is Places e = no (cc)
+granted-is Pairs e = no (cc)
 
 module _ (s : Settings) (r : ℕ) where
   -- ---- the room
@@ -83,21 +96,21 @@ module _ (s : Settings) (r : ℕ) where
         (y ∙ ap (state-form s .enc) (striking x i ∙ ap (room-state s r k x) q)) (ap room-verdict q)
 
     -- ---- the share
-    module _ (ws : List ℕ) (h : Share) (f : StateReads s (share-for s k) ws h) where
-      pub granted-spot : h .granted ≡ true → Granted s k ws (h .spot)
-      granted-spot e = record { says = λ t ok is. (λ i. record { spot = h .spot; granted = sym e i }) ∙ f .says t ok is }
+    module _ (ws : List ℕ) (h : Share) (f : StateReads s (share-for s k) ws h) (may : Bool) (said : may ≡ granted (h .draw)) where
+      pub granted-spot : may ≡ true → Granted s k ws (h .spot)
+      granted-spot e = record { says = λ t ok is. (λ i. record { spot = h .spot; draw = sym (granted-is (h .draw) (sym said ∙ e)) i }) ∙ f .says t ok is }
 
-      no-share : (t : State) → state-form s .Ok t → ws ≡ state-form s .enc t → (b : Bool) → h .granted ≡ b → b ≡ share-for s k t .granted
-      no-share t ok is b e = sym e ∙ ap (λ (z : Share). z .granted) (f .says t ok is)
+      no-share : (t : State) → state-form s .Ok t → ws ≡ state-form s .enc t → (b : Bool) → may ≡ b → b ≡ granted (share-for s k t .draw)
+      no-share t ok is b e = sym e ∙ said ∙ ap (λ (z : Share). granted (z .draw)) (f .says t ok is)
 
-      pub no-share-turns : h .granted ≡ false → StateTurns s (taken-share s r k) (share-says s r k) ws ws Full
+      pub no-share-turns : may ≡ false → StateTurns s (taken-share s r k) (share-says s r k) ws ws Full
       no-share-turns e = record {
         does = λ t ok is.
             let q = no-share t ok is false e in
             (is ∙ ap (λ (b : Bool). state-form s .enc (cond b (taken-room s r k t) t)) q, ap (λ (b : Bool). cond b (room-says s r k t) Full) q);
       }
 
-      pub share-turns : (last : List ℕ) (v : Verdict) → h .granted ≡ true → StateTurns s (taken-room s r k) (room-says s r k) ws last v
+      pub share-turns : (last : List ℕ) (v : Verdict) → may ≡ true → StateTurns s (taken-room s r k) (room-says s r k) ws last v
           → StateTurns s (taken-share s r k) (share-says s r k) ws last v
       share-turns last v e o = record {
         does = λ t ok is.
@@ -136,7 +149,7 @@ module _ (s : Settings) (r : ℕ) where
     abbrev share-asked : Bool
     share-asked = granted (draw-says (s .shares) (a .who) (second-of (bucket-of (usable-at s r) (a .stamp)) (usable-at s r .bucket)) (t .book))
 
-    same-share : share-for s k t .granted ≡ share-asked
+    same-share : granted (share-for s k t .draw) ≡ share-asked
     unfolding draw-says
     same-share = rw (q .who, q .second)
 

@@ -1,2 +1,3 @@
 pub mod Words
 pub mod Rules
+pub mod Reasons

@@ -1,9 +1,10 @@
 -- The model's rules of a take, as the functions of this crate name them.
 use Prim.Native.Nat.{ℕ, _≤_, _<_}
 use mathlib.Core.Path.{_≡_}
-use mathlib.Core.Bool.{Bool, true, cond}
+use mathlib.Core.Bool.{Bool, cond}
 use mathlib.Core.List.{List}
 use Rattle.model.specs.declared.Deliverer.{Deliverer}
+use Rattle.model.specs.declared.Draw.the-variants.{Granted as Had}
 use Rattle.model.specs.declared.Limits.{Limits}
 use Rattle.model.specs.declared.Room.{Room}
 use Rattle.model.specs.declared.Room.the-variants.{At, Collides, Full as NoSlots}
@@ -44,7 +45,7 @@ pub record Suits (u : Usable) (a : Ask) (k : Ticket) : Type 0 where
 
 -- ---- its share
 abbrev pub share-in : Shares → Limits → Bool → Deliverer → ℕ → List Place → Share
-share-in b l closed who s ps = record { spot = spot-of who s ps; granted = granted (draw-test b l closed who s ps) }
+share-in b l closed who s ps = record { spot = spot-of who s ps; draw = draw-test b l closed who s ps }
 
 abbrev pub share-for : Settings → Ticket → State → Share
 share-for s k t =
@@ -52,7 +53,7 @@ share-for s k t =
 
 -- looked up in these words, and granted
 abbrev pub Granted : Settings → Ticket → List ℕ → Spot → Type 0
-Granted s k ws spot = StateReads s (share-for s k) ws (record { spot = spot; granted = true })
+Granted s k ws spot = StateReads s (share-for s k) ws (record { spot = spot; draw = Had })
 
 abbrev pub drawn-by : Settings → Ticket → State → State
 drawn-by s k t = with-book (drawn (s .shares) (k .who) (k .second .0) (t .book)) t
@@ -96,10 +97,10 @@ room-says s r k t = room-verdict (room-for s r k t)
 
 -- by its share
 abbrev pub taken-share : Settings → ℕ → Ticket → State → State
-taken-share s r k t = cond (share-for s k t .granted) (taken-room s r k t) t
+taken-share s r k t = cond (granted (share-for s k t .draw)) (taken-room s r k t) t
 
 abbrev pub share-says : Settings → ℕ → Ticket → State → Verdict
-share-says s r k t = cond (share-for s k t .granted) (room-says s r k t) Full
+share-says s r k t = cond (granted (share-for s k t .draw)) (room-says s r k t) Full
 
 -- what a take of the model leaves of a state
 abbrev pub left : ℕ → Taken → State → State

@@ -1,15 +1,20 @@
 // Take: a ticket is judged, and a new one is drawn from its deliverer's share and struck, in the whole run of words that the
 // settings need: the front, the share book and the registers.
+mod explaining;
 mod on_register;
 mod shares;
 mod tickets;
 
 use book::Spot;
+use book::decide;
+pub use explaining::explain;
+pub use explaining::explain_seen;
 use model::Room;
 use model::Settings;
 use model::Verdict;
 use numbers::starts;
 use numbers::starts::RegisterExtent;
+pub use on_register::see;
 use register::Ask;
 use tickets::Ticket;
 ghost use mathlib.Core.Path.{_≡_};
@@ -64,7 +69,8 @@ fn take_share(
     ensures { λ v. ⌜ StateTurns s (taken-share s r ticket) (share-says s r ticket) (now (run .entry)) (now (run .exit)) v ⌝ }
 {
     let share = shares::look_up(run, s, ticket);
-    if !share.granted {
+    let draw = share.draw;
+    if !decide::is_granted(draw) {
         return Verdict::Full;
     }
     let spot = share.spot;

@@ -1,9 +1,9 @@
 // A ticket's share, in the words of its class's share book.
 use crate::tickets::Ticket;
 use book::Spot;
-use book::decide;
 use book::front;
 use model::Deliverer;
+use model::Draw;
 use model::Limits;
 use model::Second;
 use model::Settings;
@@ -20,10 +20,10 @@ ghost use Rattle.book.specs.ClassRules.{ClassIs, ClassReads};
 ghost use Rattle.taking.specs.Rules.{Proper, Granted, share-in, share-for, drawn-by};
 ghost use Rattle.taking.specs.Words.{RunWords, StateReads, StateTurns};
 
-// Where a draw would be entered, and whether it is granted.
+// Where a draw would be entered, and what the book says to it.
 pub struct Share {
     pub spot: Spot,
-    pub granted: bool,
+    pub draw: Draw,
 }
 
 // The share in a class's own words.
@@ -42,7 +42,7 @@ fn look(
     let draw = book::draw(part, b, limits, closed, who, spot);
     Share {
         spot: spot,
-        granted: decide::is_granted(draw),
+        draw: draw,
     }
 }
 

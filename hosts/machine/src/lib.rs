@@ -2,9 +2,11 @@
 //! compared with the Rust.
 
 use calls::call::Ticket;
-use calls::{Answer, Call, Form, Length, Limits, Look, Machine, Settings, Start, Verdict, Who};
+use calls::{
+    Answer, Call, Form, Length, Limits, Look, Machine, Reason, Settings, Start, Verdict, Who,
+};
 use strikes::raw::{self, Ask, Manner};
-use strikes::{Refusal, Verdict as Said};
+use strikes::{Reason as Why, Refusal, Verdict as Said};
 
 /// The words that a list can be lent at most, whatever a `lend` line says.
 const MOST: u64 = 1 << 24;
@@ -252,6 +254,16 @@ fn view((written, out): (u64, &[u64])) -> Answer {
         .map_or(Answer::Broke, |words| Answer::Viewed(words.to_vec()))
 }
 
+/// The verdict that is told must be the one that the rule gives.
+fn reason((rule, class, verdict): (u64, u64, u64)) -> Answer {
+    match (Why::of(rule, class), Said::of(verdict)) {
+        (Some(why), Some(said)) if why.verdict() == said => {
+            Answer::Because(verdict_of(said), reason_of(why))
+        }
+        _ => Answer::Broke,
+    }
+}
+
 fn restored((whole, read): (u64, u64)) -> Answer {
     match whole {
         1 => Answer::Whole(read),
@@ -290,6 +302,27 @@ fn verdict_of(said: Said) -> Verdict {
         Said::Ahead => Verdict::Ahead,
         Said::Full => Verdict::Full,
         Said::Unjudged => Verdict::Unjudged,
+    }
+}
+
+fn reason_of(why: Why) -> Reason {
+    match why {
+        Why::Accepted => Reason::Accepted,
+        Why::Pending => Reason::Pending,
+        Why::Flag => Reason::Flag,
+        Why::Held(class) => Reason::Held(class.number()),
+        Why::Floor => Reason::Floor,
+        Why::Behind => Reason::Behind,
+        Why::Ahead => Reason::Ahead,
+        Why::Closed => Reason::Closed,
+        Why::OwnShare => Reason::OwnShare,
+        Why::ClassLimit => Reason::ClassLimit,
+        Why::EqualPart => Reason::EqualPart,
+        Why::TwiceLimit => Reason::TwiceLimit,
+        Why::Places => Reason::Places,
+        Why::Pairs => Reason::Pairs,
+        Why::Position => Reason::Position,
+        Why::Slots => Reason::Slots,
     }
 }
 

@@ -1,6 +1,6 @@
 //! The register on example tickets: what happens when a clock is stepped, a sweep forgets a ticket, and a neighbour's copy of it comes
-//! late; and when a neighbour's dump does not fit beside what is held. Each verdict is printed with its reason, which is worked out here
-//! from what the register tells of itself.
+//! late; and when a neighbour's dump does not fit beside what is held. Each verdict is printed with the rule that gives it, as the register
+//! names it, and the numbers that decide.
 
 use std::fmt::Write as _;
 use std::process::ExitCode;
@@ -10,6 +10,8 @@ use strikes::{
     Deliverer, Gateway, Limits, Reading, Refusal, Restored, Settings, Start, Ticket, Verdict,
     Window, Windows,
 };
+
+use crate::why::{Brought, Why, why};
 
 /// The example of the scope paper: a meter's own copy may be 10 s old, a neighbour's 20 s.
 const WINDOWS: Windows = Windows {
@@ -30,6 +32,9 @@ const LIMITS: Limits = Limits {
 const METER: Deliverer = Deliverer::Feeder(1);
 const FLOODING: Deliverer = Deliverer::Feeder(2);
 const NEIGHBOUR: Deliverer = Deliverer::Peer(9);
+
+/// A take of either form.
+type Take = fn(&mut Gateway, u64, Ticket, Reading, Deliverer) -> Result<Verdict, Refusal>;
 
 pub fn run() -> ExitCode {
     match tell() {
@@ -165,9 +170,8 @@ impl Story {
         fingerprint: u64,
         stamp: u64,
     ) -> Result<(), Refusal> {
-        let (ticket, now) = (Ticket { fingerprint, stamp }, Reading::at(ms));
-        let verdict = self.gateway.take(0, ticket, now, who)?;
-        self.print(ticket, now, who, verdict)
+        let ticket = Ticket { fingerprint, stamp };
+        self.bring(Gateway::take, Reading::at(ms), who, ticket)
     }
 
     fn batch(
@@ -177,9 +181,8 @@ impl Story {
         fingerprint: u64,
         stamp: u64,
     ) -> Result<(), Refusal> {
-        let (ticket, now) = (Ticket { fingerprint, stamp }, Reading::at(ms));
-        let verdict = self.gateway.take_batch(0, ticket, now, who)?;
-        self.print(ticket, now, who, verdict)
+        let ticket = Ticket { fingerprint, stamp };
+        self.bring(Gateway::take_batch, Reading::at(ms), who, ticket)
     }
 
     /// A ticket that comes while the clock is not synchronised.
@@ -190,72 +193,35 @@ impl Story {
         fingerprint: u64,
         stamp: u64,
     ) -> Result<(), Refusal> {
-        let (ticket, now) = (
-            Ticket { fingerprint, stamp },
-            Reading { ms, judging: false },
-        );
-        let verdict = self.gateway.take(0, ticket, now, who)?;
-        self.print(ticket, now, who, verdict)
+        let ticket = Ticket { fingerprint, stamp };
+        self.bring(Gateway::take, Reading { ms, judging: false }, who, ticket)
     }
 
-    fn print(
+    /// Brings a ticket, and prints its verdict with the rule that gives it.
+    fn bring(
         &mut self,
-        ticket: Ticket,
+        take: Take,
         now: Reading,
         who: Deliverer,
-        verdict: Verdict,
+        ticket: Ticket,
     ) -> Result<(), Refusal> {
-        let reason = self.reason(ticket, now, who, verdict)?;
-        let (ms, who, verdict) = (now.ms, name(who), verdict.to_string());
+        let brought = Brought {
+            register: 0,
+            ticket,
+            now,
+            who,
+        };
+        let Why {
+            reason, numbers, ..
+        } = why(&self.gateway, &brought)?;
+        let verdict = take(&mut self.gateway, 0, ticket, now, who)?.to_string();
+        let (ms, who) = (now.ms, name(who));
         let Ticket { fingerprint, stamp } = ticket;
+        let numbers = numbers.map_or(String::new(), |numbers| format!(": {numbers}"));
         self.line(&format!(
-            "    {ms:>6}  {who:<12} ticket {fingerprint:>2} of {stamp:>6}: {verdict:<9}  {reason}"
+            "    {ms:>6}  {who:<12} ticket {fingerprint:>2} of {stamp:>6}: {verdict:<9}  {reason}{numbers}"
         ));
         Ok(())
-    }
-
-    fn reason(
-        &self,
-        ticket: Ticket,
-        now: Reading,
-        who: Deliverer,
-        verdict: Verdict,
-    ) -> Result<String, Refusal> {
-        let window = if matches!(who, Deliverer::Feeder(_)) {
-            WINDOWS.origin
-        } else {
-            WINDOWS.copy
-        };
-        let floor = self.gateway.floor(0)?;
-        let bucket = (ticket.stamp + WINDOWS.retained()).div_ceil(WINDOWS.bucket);
-        Ok(match verdict {
-            Verdict::New => {
-                format!("in its window, above the floor and not held; now held in bucket {bucket}")
-            }
-            Verdict::Duplicate => format!("its fingerprint is held in bucket {bucket}"),
-            Verdict::Late if floor.is_some_and(|floor| ticket.stamp <= floor) => {
-                format!("its stamp is not above the floor, {}", floor.unwrap_or(0))
-            }
-            Verdict::Late if ticket.stamp + window.behind < now.ms => {
-                format!(
-                    "{} old, and {} is allowed",
-                    now.ms - ticket.stamp,
-                    window.behind
-                )
-            }
-            Verdict::Late => "the position of its bucket is taken by another bucket".into(),
-            Verdict::Ahead => format!(
-                "{} ahead of the clock, and {} is allowed",
-                ticket.stamp - now.ms,
-                window.ahead
-            ),
-            Verdict::Full => format!(
-                "{} has {} entries, which is its share",
-                name(who),
-                self.gateway.held(who)?
-            ),
-            Verdict::Unjudged => "the clock is not synchronised; nothing is altered".into(),
-        })
     }
 }
 

@@ -6,16 +6,22 @@
 //!     strikes record < LIST     prints the list with the register's answers
 //!     strikes view < LIST       runs a list and prints what it leaves so that a person can read it
 //!     strikes view FILE         prints words that a host has kept, as little-endian bytes
+//!     strikes save FILE < LIST  runs a list and keeps the words that it leaves, as little-endian bytes
+//!     strikes explain FILE REG FP STAMP READING FLAG WHO   prints why a take on kept words would answer as it would
+//!     strikes explain < LIST    runs a list and prints the same of each ticket in it
 //!     strikes meter WHO < LIST  runs a list and prints the seconds, counts and entries that it leaves to a deliverer, as `f:1`
 //!     strikes soak SEED [DAYS [PICTURE]]   half a year of a gateway's clock, or so many days, watched by a ledger
 //!
 //! The status is 0 only if every line could be read and every answer agreed.
 
 mod demo;
+mod explain;
 mod list;
 mod meter;
+mod saved;
 mod soak;
 mod view;
+mod why;
 
 use std::io::{self, Write};
 use std::process::ExitCode;
@@ -29,6 +35,9 @@ fn main() -> ExitCode {
         ["demo"] => demo::run(),
         ["view"] => view::of_list(),
         ["view", file] => view::of_file(file),
+        ["save", file] => saved::of_list(file),
+        ["explain"] => explain::of_list(),
+        ["explain", file, ref ticket @ ..] => explain::of_file(file, ticket),
         ["meter", who] => meter(who),
         ["soak", seed] => soak(seed, SOAK_DAYS, SOAK_PICTURE),
         ["soak", seed, days] => soak(seed, days, SOAK_PICTURE),
@@ -70,7 +79,7 @@ fn soak(seed: &str, days: &str, file: &str) -> ExitCode {
 
 fn usage() -> ExitCode {
     eprintln!(
-        "strikes demo, {}, view < LIST, view FILE, meter WHO < LIST, soak SEED [DAYS [PICTURE]]",
+        "strikes demo, {}, view < LIST, view FILE, save FILE < LIST, explain FILE REG FP STAMP READING FLAG WHO, explain < LIST, meter WHO < LIST, soak SEED [DAYS [PICTURE]]",
         calls::program::USAGE
     );
     ExitCode::from(2)

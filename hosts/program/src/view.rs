@@ -2,11 +2,11 @@
 
 use std::process::ExitCode;
 
-use strikes::words::{self, Book, Generation, Held, Place, Register, View};
+use strikes::words::{Book, Generation, Held, Place, Register, View};
 use strikes::{Class, Deliverer};
 
 use crate::list::left_by_list;
-use crate::tell;
+use crate::{saved, tell};
 
 /// The fingerprints of a generation, and the pairs of a place, that are printed; of more, their number.
 const SHOWN: usize = 8;
@@ -18,31 +18,11 @@ pub fn of_list() -> ExitCode {
 
 /// Words that a host has kept.
 pub fn of_file(file: &str) -> ExitCode {
-    match std::fs::read(file) {
-        Ok(bytes) => {
-            let (words, _) = bytes.as_chunks::<8>();
-            of_words(
-                &words
-                    .iter()
-                    .map(|word| u64::from_le_bytes(*word))
-                    .collect::<Vec<_>>(),
-            )
-        }
-        Err(why) => {
-            eprintln!("strikes: {file}: {why}");
-            ExitCode::from(2)
-        }
-    }
+    saved::read(file).map_or_else(|status| status, |words| of_words(&words))
 }
 
 fn of_words(words: &[u64]) -> ExitCode {
-    match words::view(words) {
-        Some(view) => tell(&text_of(&view)),
-        None => {
-            eprintln!("strikes: these are no words of a gateway");
-            ExitCode::FAILURE
-        }
-    }
+    saved::view(words).map_or_else(|status| status, |view| tell(&text_of(&view)))
 }
 
 fn text_of(view: &View) -> String {
@@ -55,7 +35,6 @@ fn text_of(view: &View) -> String {
 }
 
 fn book_lines(book: &Book) -> Vec<String> {
-    let limits = book.limits;
     let state = if book.closed { "closed" } else { "open" };
     let mut lines = vec![
         format!(
@@ -67,38 +46,24 @@ fn book_lines(book: &Book) -> Vec<String> {
             book.feeder_units, book.peer_units
         ),
     ];
-    let together = [limits.feeders, limits.peers, limits.relay];
-    let own = [Some(limits.feeder), Some(limits.peer), None];
-    for ((class, held), (together, own)) in Class::ALL
-        .iter()
-        .zip(&book.classes)
-        .zip(together.iter().zip(own))
-    {
-        lines.push(class_line(*class, held, book.places, *together));
-        lines.extend(held.places.iter().map(|place| place_line(place, book, own)));
+    for (class, held) in Class::ALL.iter().zip(&book.classes) {
+        lines.push(class_line(*class, held, book));
+        lines.extend(held.places.iter().map(|place| place_line(place, book)));
     }
     lines
 }
 
-fn class_line(class: Class, held: &Held, places: u64, together: u64) -> String {
+fn class_line(class: Class, held: &Held, book: &Book) -> String {
     let totals = held.totals;
+    let (places, together) = (book.places, book.together(class));
     format!(
         "  {}: {} of {places} places, {} entries, {} of {together} units, expired up to second {}",
-        class_name(class),
-        totals.holders,
-        totals.entries,
-        totals.units,
-        totals.expired
+        class, totals.holders, totals.entries, totals.units, totals.expired
     )
 }
 
-fn place_line(place: &Place, book: &Book, own: Option<u64>) -> String {
-    let (units, share) = match place.who {
-        Deliverer::Feeder(_) => (book.feeder_units, own),
-        Deliverer::Peer(_) => (book.peer_units, own),
-        Deliverer::Relay => (0, Some(book.limits.relay)),
-        Deliverer::Restored(_) => (book.peer_units, None),
-    };
+fn place_line(place: &Place, book: &Book) -> String {
+    let (units, share) = (book.units(place.who), book.share(place.who));
     let share = share.map_or("no share of its own".into(), |share| format!("of {share}"));
     let pairs = shown(&place.pairs, |(second, count)| {
         format!("{count} in {second}")
@@ -145,7 +110,7 @@ fn register_lines(number: usize, register: &Register) -> Vec<String> {
             .sum();
         lines.push(format!(
             "  {}: {held} held in {} of {} generations",
-            class_name(*class),
+            class,
             ring.len(),
             windows.ring()
         ));
@@ -178,14 +143,6 @@ fn shown<T>(all: &[T], text: impl Fn(&T) -> String) -> String {
         parts.push(format!("and {} more", all.len() - SHOWN));
     }
     parts.join(", ")
-}
-
-fn class_name(class: Class) -> &'static str {
-    match class {
-        Class::Feeders => "Feeders",
-        Class::Peers => "Peers",
-        Class::Own => "Own",
-    }
 }
 
 fn name(who: Deliverer) -> String {

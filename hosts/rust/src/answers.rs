@@ -49,6 +49,123 @@ impl fmt::Display for Verdict {
     }
 }
 
+/// The rule that gives a take's verdict. Rules are tried in this order, and the first that is met decides; [`Accepted`](Self::Accepted)
+/// where none is. As text it is a sentence; docs/HOST-GUIDE.md, "Why was it Late?", says what an operator can do about each.
+///
+/// ```
+/// use strikes::{Class, Reason, Verdict};
+///
+/// let reason = Reason::Held(Class::Peers);
+/// assert_eq!(reason.verdict(), Verdict::Duplicate);
+/// assert_eq!(reason.to_string(), "class Peers holds its fingerprint in its bucket");
+/// assert_eq!((Reason::of(3, 1), Reason::of(3, 3), Reason::of(16, 0)), (Some(reason), None, None));
+/// ```
+#[derive(Clone, Copy, Debug, PartialEq, Eq, Hash)]
+pub enum Reason {
+    /// 0: nothing is against the ticket, which is New.
+    Accepted,
+    /// 1: the register is pending. Unjudged, as the next.
+    Pending,
+    /// 2: the clock does not judge.
+    Flag,
+    /// 3: a class holds the fingerprint in the ticket's bucket, and no lower one does. Duplicate.
+    Held(Class),
+    /// 4: the stamp is at or below the floor. Late, as the next two.
+    Floor,
+    /// 5: the stamp is behind the deliverer's window.
+    Behind,
+    /// 6: the stamp is ahead of the deliverer's window. The batch forms say Ahead.
+    Ahead,
+    /// 7: the share book is closed. Full, as the next six.
+    Closed,
+    /// 8: the deliverer has its own share.
+    OwnShare,
+    /// 9: of Relay and Restored: the class would pass its limit.
+    ClassLimit,
+    /// 10: of Feeder and Peer: the class would pass its limit, and the deliverer its equal part of it.
+    EqualPart,
+    /// 11: of Feeder and Peer: the class would pass twice its limit.
+    TwiceLimit,
+    /// 12: the deliverer is new, and all places of its class are used.
+    Places,
+    /// 13: the ticket's second is new to the deliverer, and all its pairs are used.
+    Pairs,
+    /// 14: another bucket has the position of the ticket's bucket. Late.
+    Position,
+    /// 15: the generation would need more than S slots. Full.
+    Slots,
+}
+
+impl Reason {
+    /// By the numbers of rule and class in the entry points. The class is read of [`Held`](Self::Held) alone.
+    pub fn of(rule: u64, class: u64) -> Option<Self> {
+        Some(match rule {
+            0 => Self::Accepted,
+            1 => Self::Pending,
+            2 => Self::Flag,
+            3 => Self::Held(Class::of(class)?),
+            4 => Self::Floor,
+            5 => Self::Behind,
+            6 => Self::Ahead,
+            7 => Self::Closed,
+            8 => Self::OwnShare,
+            9 => Self::ClassLimit,
+            10 => Self::EqualPart,
+            11 => Self::TwiceLimit,
+            12 => Self::Places,
+            13 => Self::Pairs,
+            14 => Self::Position,
+            15 => Self::Slots,
+            _ => return None,
+        })
+    }
+
+    /// The verdict that it gives a take.
+    pub fn verdict(self) -> Verdict {
+        match self {
+            Self::Accepted => Verdict::New,
+            Self::Pending | Self::Flag => Verdict::Unjudged,
+            Self::Held(_) => Verdict::Duplicate,
+            Self::Floor | Self::Behind | Self::Ahead | Self::Position => Verdict::Late,
+            Self::Closed
+            | Self::OwnShare
+            | Self::ClassLimit
+            | Self::EqualPart
+            | Self::TwiceLimit
+            | Self::Places
+            | Self::Pairs
+            | Self::Slots => Verdict::Full,
+        }
+    }
+}
+
+impl fmt::Display for Reason {
+    fn fmt(&self, f: &mut fmt::Formatter<'_>) -> fmt::Result {
+        f.write_str(match self {
+            Self::Accepted => "no rule is against it",
+            Self::Pending => "the register waits for its begin",
+            Self::Flag => "the clock does not judge",
+            Self::Held(class) => {
+                return write!(f, "class {class} holds its fingerprint in its bucket");
+            }
+            Self::Floor => "its stamp is not above the floor",
+            Self::Behind => "its stamp is behind its window",
+            Self::Ahead => "its stamp is ahead of its window",
+            Self::Closed => "the share book is closed",
+            Self::OwnShare => "its deliverer has its whole share of entries",
+            Self::ClassLimit => "its class would be above its limit",
+            Self::EqualPart => {
+                "its class would be above its limit, and its deliverer above its equal part"
+            }
+            Self::TwiceLimit => "its class would be above twice its limit",
+            Self::Places => "every place of its class is used",
+            Self::Pairs => "every pair of its deliverer is used, and none has its second",
+            Self::Position => "another bucket has its bucket's position",
+            Self::Slots => "its generation has no slot left",
+        })
+    }
+}
+
 /// Why a call was refused. It altered nothing.
 #[derive(Clone, Copy, Debug, PartialEq, Eq, Hash)]
 pub enum Refusal {
@@ -140,12 +257,28 @@ pub enum Class {
 impl Class {
     pub const ALL: [Self; 3] = [Self::Feeders, Self::Peers, Self::Own];
 
+    /// By its number in the entry points.
+    pub fn of(number: u64) -> Option<Self> {
+        Self::ALL.get(usize::try_from(number).ok()?).copied()
+    }
+
+    /// Its number in the entry points.
     pub fn number(self) -> u64 {
         match self {
             Self::Feeders => 0,
             Self::Peers => 1,
             Self::Own => 2,
         }
+    }
+}
+
+impl fmt::Display for Class {
+    fn fmt(&self, f: &mut fmt::Formatter<'_>) -> fmt::Result {
+        f.write_str(match self {
+            Self::Feeders => "Feeders",
+            Self::Peers => "Peers",
+            Self::Own => "Own",
+        })
     }
 }
 
@@ -163,6 +296,16 @@ pub enum Deliverer {
 }
 
 impl Deliverer {
+    /// The class whose places and generations are its own.
+    pub fn class(self) -> Class {
+        match self {
+            Self::Feeder(_) => Class::Feeders,
+            Self::Peer(_) => Class::Peers,
+            Self::Relay => Class::Own,
+            Self::Restored(class) => class,
+        }
+    }
+
     /// Its kind and number in the entry points.
     pub fn codes(self) -> (u64, u64) {
         match self {

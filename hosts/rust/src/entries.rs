@@ -32,6 +32,9 @@ macro_rules! entries {
             take(settings: &[u64], words: &mut [u64], register, fingerprint, stamp, reading, flag, kind, number) -> (verdict);
             /// As [`take`], but a ticket past the front of its window is Ahead.
             take_batch(settings: &[u64], words: &mut [u64], register, fingerprint, stamp, reading, flag, kind, number) -> (verdict);
+            /// Why a [`take`] with these arguments would answer as it would: the rule that decides, the class that holds the ticket
+            /// where that is the rule, else 0, and the take's verdict.
+            explain(settings: &[u64], words: &[u64], register, fingerprint, stamp, reading, flag, kind, number) -> (rule, class, verdict);
             /// 1 where any bucket of the register holds the fingerprint, else 0.
             contains_hash(settings: &[u64], words: &[u64], register, fingerprint) -> (held);
             /// Raises a pending register's floor and lets it judge: 1. A register that is not pending is left as it is: 0.

@@ -1,7 +1,7 @@
 //! A share book and its registers, which own their words.
 
 use crate::answers::{
-    Begun, Class, Deliverer, Generation, Refusal, Restored, Start, Swept, Totals, Verdict,
+    Begun, Class, Deliverer, Generation, Reason, Refusal, Restored, Start, Swept, Totals, Verdict,
 };
 use crate::raw::{self, Ask, Manner};
 use crate::settings::{Limits, Settings};
@@ -135,16 +135,7 @@ impl Gateway {
         now: Reading,
         who: Deliverer,
     ) -> Result<Verdict, Refusal> {
-        let (kind, number) = who.codes();
-        let ask = Ask {
-            register,
-            fingerprint: ticket.fingerprint,
-            stamp: ticket.stamp,
-            reading: now.ms,
-            flag: u64::from(now.judging),
-            kind,
-            number,
-        };
+        let ask = ask_of(register, ticket, now, who);
         let verdict = raw::ask(manner, &self.settings, &mut self.words, &ask)?;
         Ok(Verdict::of(verdict).expect("the library answers one of six verdicts"))
     }
@@ -191,6 +182,55 @@ impl Gateway {
         who: Deliverer,
     ) -> Result<Verdict, Refusal> {
         self.ask(raw::take_batch, register, ticket, now, who)
+    }
+
+    /// Why a [`take`](Self::take) of the ticket would answer as it would: the first rule that is met by the register as a sweep at this
+    /// reading would leave it. Nothing is altered, and no sweep is made. A take that was not New can be explained after it too, with the
+    /// same arguments.
+    ///
+    /// ```
+    /// # use strikes::{Class, Deliverer, Gateway, Limits, Reading, Reason, Refusal, Settings, Start, Ticket, Verdict, Window, Windows};
+    /// # fn main() -> Result<(), Refusal> {
+    /// let windows = Windows { origin: Window::of(10_000, 2_000), copy: Window::of(20_000, 2_000), bucket: 1_000, slots: 8 };
+    /// # let settings = Settings::new().register(windows);
+    /// # let limits = Limits { feeder: 9, feeders: 9, peer: 9, peers: 9, relay: 9 };
+    /// let mut gateway = Gateway::open(&settings, &limits, &[Start::Empty])?;
+    /// let (ticket, meter) = (Ticket { fingerprint: 7, stamp: 100_000 }, Deliverer::Feeder(1));
+    /// let why = |gateway: &Gateway, ms| gateway.explain(0, ticket, Reading::at(ms), meter);
+    /// assert_eq!(why(&gateway, 100_000)?, Reason::Accepted);
+    /// gateway.take(0, ticket, Reading::at(100_000), meter)?;
+    /// assert_eq!(why(&gateway, 100_000)?, Reason::Held(Class::Feeders));
+    ///
+    /// // At this reading a take would sweep the ticket's bucket away and find its stamp at the floor. Explained, it is still there.
+    /// let reason = why(&gateway, 120_001)?;
+    /// assert_eq!((reason, reason.verdict()), (Reason::Floor, Verdict::Late));
+    /// assert_eq!(reason.to_string(), "its stamp is not above the floor");
+    /// assert_eq!(gateway.floor(0)?, None);
+    /// assert_eq!(gateway.take(0, ticket, Reading::at(120_001), meter)?, Verdict::Late);
+    /// assert_eq!(why(&gateway, 120_001)?, Reason::Floor);
+    /// # Ok(())
+    /// # }
+    /// ```
+    pub fn explain(
+        &self,
+        register: u64,
+        ticket: Ticket,
+        now: Reading,
+        who: Deliverer,
+    ) -> Result<Reason, Refusal> {
+        let ask = ask_of(register, ticket, now, who);
+        let (rule, class, _) = raw::explain(
+            &self.settings,
+            &self.words,
+            ask.register,
+            ask.fingerprint,
+            ask.stamp,
+            ask.reading,
+            ask.flag,
+            ask.kind,
+            ask.number,
+        )?;
+        Ok(Reason::of(rule, class).expect("the library names one of sixteen rules"))
     }
 
     /// Whether any bucket of the register holds the fingerprint.
@@ -388,6 +428,19 @@ impl Gateway {
             units,
             expired,
         })
+    }
+}
+
+fn ask_of(register: u64, ticket: Ticket, now: Reading, who: Deliverer) -> Ask {
+    let (kind, number) = who.codes();
+    Ask {
+        register,
+        fingerprint: ticket.fingerprint,
+        stamp: ticket.stamp,
+        reading: now.ms,
+        flag: u64::from(now.judging),
+        kind,
+        number,
     }
 }
 

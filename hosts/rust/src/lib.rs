@@ -18,7 +18,7 @@ mod settings;
 pub mod words;
 
 pub use answers::{
-    Begun, Class, Deliverer, Generation, Refusal, Restored, Start, Swept, Totals, Verdict,
+    Begun, Class, Deliverer, Generation, Reason, Refusal, Restored, Start, Swept, Totals, Verdict,
 };
 pub use gateway::{Gateway, Reading, Ticket};
 pub use keep::{Found, Keep, KeepError, MINUTE};

@@ -40,7 +40,12 @@ impl Windows {
         self.origin.ahead.max(self.copy.ahead)
     }
 
-    /// The generations of each class; at most 256. For settings within their bounds.
+    /// The bucket that a ticket of this stamp is held in. For settings within their bounds, as the next.
+    pub fn bucket_of(&self, stamp: u64) -> u64 {
+        stamp.saturating_add(self.retained()).div_ceil(self.bucket)
+    }
+
+    /// The generations of each class; at most 256.
     pub fn ring(&self) -> u64 {
         (self.retained() + self.ahead()).div_ceil(self.bucket) + 2
     }

@@ -2,7 +2,7 @@
 //! tests soundness.
 
 use crate::answers::{Class, Deliverer, Totals};
-use crate::settings::{Limits, Window, Windows};
+use crate::settings::{Limits, Settings, Window, Windows};
 
 /// One place of the book.
 #[derive(Clone, Debug, PartialEq, Eq)]
@@ -61,6 +61,49 @@ pub struct Register {
 pub struct View {
     pub book: Book,
     pub registers: Vec<Register>,
+}
+
+impl View {
+    /// The settings that the words keep, with which calls on them come.
+    pub fn settings(&self) -> Settings {
+        let book = &self.book;
+        let settings = Settings::new()
+            .places(book.places)
+            .pairs(book.pairs)
+            .place_units(book.feeder_units, book.peer_units);
+        let registers = self.registers.iter();
+        registers.fold(settings, |settings, one| settings.register(one.windows))
+    }
+}
+
+impl Book {
+    /// The units that a deliverer's place costs.
+    pub fn units(&self, who: Deliverer) -> u64 {
+        match who {
+            Deliverer::Feeder(_) => self.feeder_units,
+            Deliverer::Peer(_) | Deliverer::Restored(_) => self.peer_units,
+            Deliverer::Relay => 0,
+        }
+    }
+
+    /// The entries that a deliverer may have; none where no share bounds it.
+    pub fn share(&self, who: Deliverer) -> Option<u64> {
+        match who {
+            Deliverer::Feeder(_) => Some(self.limits.feeder),
+            Deliverer::Peer(_) => Some(self.limits.peer),
+            Deliverer::Relay => Some(self.limits.relay),
+            Deliverer::Restored(_) => None,
+        }
+    }
+
+    /// The limit of a class's units together.
+    pub fn together(&self, class: Class) -> u64 {
+        match class {
+            Class::Feeders => self.limits.feeders,
+            Class::Peers => self.limits.peers,
+            Class::Own => self.limits.relay,
+        }
+    }
 }
 
 /// A run of words, read from its front.

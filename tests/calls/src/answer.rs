@@ -14,6 +14,52 @@ pub enum Verdict {
     Unjudged,
 }
 
+/// The rule that gives a take's verdict: the first that is met, in this order; `Accepted` where none is.
+#[derive(Clone, Copy, Debug, PartialEq, Eq, Hash, PartialOrd, Ord)]
+pub enum Reason {
+    Accepted,
+    Pending,
+    Flag,
+    /// With the lowest class that holds it.
+    Held(u64),
+    Floor,
+    Behind,
+    Ahead,
+    Closed,
+    OwnShare,
+    ClassLimit,
+    EqualPart,
+    TwiceLimit,
+    Places,
+    Pairs,
+    Position,
+    Slots,
+}
+
+impl Reason {
+    /// Every rule, and each class that can hold a ticket.
+    pub const ALL: [Self; 18] = [
+        Self::Accepted,
+        Self::Pending,
+        Self::Flag,
+        Self::Held(0),
+        Self::Held(1),
+        Self::Held(2),
+        Self::Floor,
+        Self::Behind,
+        Self::Ahead,
+        Self::Closed,
+        Self::OwnShare,
+        Self::ClassLimit,
+        Self::EqualPart,
+        Self::TwiceLimit,
+        Self::Places,
+        Self::Pairs,
+        Self::Position,
+        Self::Slots,
+    ];
+}
+
 #[derive(Clone, Debug, PartialEq, Eq)]
 pub enum Answer {
     Opened,
@@ -29,6 +75,8 @@ pub enum Answer {
     Numbers(Vec<u64>),
     /// The words of a view.
     Viewed(Vec<u64>),
+    /// A take's verdict, and the rule that gives it.
+    Because(Verdict, Reason),
     Refused(u64),
     /// The tool does not run this call: its answer is not compared.
     Apart,
@@ -45,6 +93,29 @@ impl fmt::Display for Verdict {
             Self::Ahead => "ahead",
             Self::Full => "full",
             Self::Unjudged => "unjudged",
+        })
+    }
+}
+
+impl fmt::Display for Reason {
+    fn fmt(&self, f: &mut fmt::Formatter<'_>) -> fmt::Result {
+        f.write_str(match self {
+            Self::Accepted => "accepted",
+            Self::Pending => "pending",
+            Self::Flag => "flag",
+            Self::Held(class) => return write!(f, "held {class}"),
+            Self::Floor => "floor",
+            Self::Behind => "behind",
+            Self::Ahead => "ahead",
+            Self::Closed => "closed",
+            Self::OwnShare => "own-share",
+            Self::ClassLimit => "class-limit",
+            Self::EqualPart => "equal-part",
+            Self::TwiceLimit => "twice",
+            Self::Places => "places",
+            Self::Pairs => "pairs",
+            Self::Position => "position",
+            Self::Slots => "slots",
         })
     }
 }
@@ -73,6 +144,7 @@ impl fmt::Display for Answer {
                 write!(f, "{}", words.len())?;
                 words.iter().try_for_each(|word| write!(f, " {word}"))
             }
+            Self::Because(verdict, reason) => write!(f, "{verdict} {reason}"),
             Self::Refused(number) => write!(f, "{number}"),
             Self::Apart => f.write_str("-"),
             Self::Broke => f.write_str("broke"),
@@ -82,7 +154,7 @@ impl fmt::Display for Answer {
 
 #[cfg(test)]
 mod tests {
-    use super::Answer;
+    use super::{Answer, Reason, Verdict};
 
     #[test]
     fn a_view_is_led_by_the_number_of_its_words() {
@@ -91,5 +163,16 @@ mod tests {
         assert_eq!(text(&[8]), "1 8");
         assert_eq!(text(&[]), "0");
         assert_eq!(Answer::Refused(8).to_string(), "8");
+    }
+
+    #[test]
+    fn a_reason_follows_the_verdict_that_it_gives() {
+        let text = |verdict, reason| Answer::Because(verdict, reason).to_string();
+        assert_eq!(text(Verdict::Late, Reason::Floor), "late floor");
+        assert_eq!(
+            text(Verdict::Duplicate, Reason::Held(1)),
+            "duplicate held 1"
+        );
+        assert_eq!(text(Verdict::Full, Reason::OwnShare), "full own-share");
     }
 }

@@ -81,6 +81,28 @@ pub struct Ticket {
     pub who: Who,
 }
 
+impl Ticket {
+    /// The call that explains a take of it.
+    pub fn explain(&self) -> Call {
+        let Self {
+            register,
+            fingerprint,
+            stamp,
+            reading,
+            flag,
+            who,
+        } = *self;
+        Call::Look(Look::Explain {
+            register,
+            fingerprint,
+            stamp,
+            reading,
+            flag,
+            who,
+        })
+    }
+}
+
 #[derive(Clone, Debug, PartialEq, Eq)]
 pub enum Call {
     Open {
@@ -129,6 +151,31 @@ pub enum Call {
         at: u64,
         value: u64,
     },
+}
+
+impl Call {
+    /// The ticket that it brings, or whose take it explains.
+    pub fn ticket(&self) -> Option<Ticket> {
+        match *self {
+            Self::Ask { ticket, .. } => Some(ticket),
+            Self::Look(Look::Explain {
+                register,
+                fingerprint,
+                stamp,
+                reading,
+                flag,
+                who,
+            }) => Some(Ticket {
+                register,
+                fingerprint,
+                stamp,
+                reading,
+                flag,
+                who,
+            }),
+            _ => None,
+        }
+    }
 }
 
 impl fmt::Display for Start {

@@ -15,7 +15,7 @@ pub mod read;
 pub mod replay;
 pub mod settings;
 
-pub use answer::{Answer, Verdict};
+pub use answer::{Answer, Reason, Verdict};
 pub use call::{Call, Form, Start, Who};
 pub use look::{Length, Look, Part};
 pub use machine::Machine;

@@ -9,11 +9,13 @@ use crate::read::{FromLine, Words};
 ///
 /// A line is `Call name(parts) -> answer;`. The call is written as its name and its parts, and the register runs it at the entry point
 /// of the same name. A part without a type is a 64-bit number. A `Length` comes last: the entry point writes into an output of so many
-/// words. The answer is `whether` (yes or no), `perhaps` (none or a number), `number`, `numbers` or `view` (what was written).
+/// words. The answer is `whether` (yes or no), `perhaps` (none or a number), `number`, `numbers`, `view` (what was written) or `reason`
+/// (a verdict and the rule that gives it).
 #[macro_export]
 macro_rules! looks {
     ($make:ident) => {
         $make! {
+            Explain explain(register, fingerprint, stamp, reading, flag, who: Who) -> reason;
             ContainsHash contains_hash(register, fingerprint) -> whether;
             Floor floor(register) -> perhaps;
             Pending pending(register) -> whether;

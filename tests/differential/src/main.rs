@@ -3,6 +3,8 @@
 //!     differential SEED N [PROFILE]   N calls of each profile, or of one
 //!     differential cut < LIST         cuts a list on which the two differ down to the smallest one
 //!
+//! Before each take the register is asked which rule will give its verdict. Its words must be as they were after it, the take's verdict the
+//! one that was told, and the rule that of the generator's ledger; a run over all profiles fails where a rule is told too seldom.
 //! After every few calls both are asked for everything that they can tell: dumps, floors, sweeps, pending, the entries of every
 //! deliverer that came up, the class totals, and the views of each register and deliverer. At the first difference the list is cut
 //! down to the smallest one that shows it and printed as a list of calls (docs/CALLS.md) with the Rust's answers; the status is then 1.
@@ -15,10 +17,14 @@ mod oracle;
 mod pair;
 #[path = "../../oracle/src/refusals.rs"]
 mod refusals;
+mod watched;
 
 use std::process::ExitCode;
 
+use generator::PROFILES;
 use generator::profile::Profile;
+use generator::program::ENOUGH;
+use generator::tally::Tally;
 use pair::Pair;
 
 fn main() -> ExitCode {
@@ -38,18 +44,32 @@ fn compare(seed: &str, number: &str, profile: &str) -> ExitCode {
     let profiles = generator::program::named(profile);
     match (seed.parse(), number.parse()) {
         (Ok(seed), Ok(number)) if !profiles.is_empty() => {
-            let (mut calls, mut looks) = (0, 0);
+            let (mut calls, mut looks, mut total) = (0, 0, Tally::default());
+            let whole = profiles.len() == PROFILES.len() && number >= ENOUGH;
             for profile in profiles {
                 let mut pair = Pair::default();
-                if let Err(why) = run(&mut pair, profile, seed, number) {
-                    eprintln!("{}, seed {seed}: {why}", profile.name);
-                    return ExitCode::FAILURE;
+                match run(&mut pair, profile, seed, number) {
+                    Ok(tally) => total.join(&tally),
+                    Err(why) => {
+                        eprintln!("{}, seed {seed}: {why}", profile.name);
+                        return ExitCode::FAILURE;
+                    }
                 }
                 calls += pair.calls;
                 looks += pair.looks;
             }
+            eprintln!("all: {total}");
+            let rare = total.unexplained();
+            if whole && !rare.is_empty() {
+                eprintln!(
+                    "seed {seed}: hardly any take explained by {}",
+                    rare.join(", ")
+                );
+                return ExitCode::FAILURE;
+            }
             println!(
-                "differential: seed {seed}: {calls} calls and {looks} looks at everything, no difference"
+                "differential: seed {seed}: {calls} calls, {} of them explained before, and {looks} looks at everything, no difference",
+                total.explained()
             );
             ExitCode::SUCCESS
         }
@@ -66,7 +86,12 @@ fn share_of(profile: &Profile, number: u64) -> u64 {
     }
 }
 
-fn run(pair: &mut Pair, profile: &'static Profile, seed: u64, number: u64) -> Result<(), String> {
+fn run(
+    pair: &mut Pair,
+    profile: &'static Profile,
+    seed: u64,
+    number: u64,
+) -> Result<Tally, String> {
     let tally = generator::generate(pair, profile, seed, share_of(profile, number), |_, _| {});
     if let Some(list) = pair.differing() {
         cut::print(&list);
@@ -77,7 +102,7 @@ fn run(pair: &mut Pair, profile: &'static Profile, seed: u64, number: u64) -> Re
         "{}: {} looks at everything; {tally}",
         profile.name, pair.looks
     );
-    Ok(())
+    Ok(tally)
 }
 
 /// A list on the standard input, its recorded answers left aside.

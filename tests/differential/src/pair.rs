@@ -1,11 +1,12 @@
-//! The register and the Rust as one machine, whose answer is the Rust's as long as the two agree.
+//! The register and the Rust as one machine, whose answer is the Rust's as long as the two agree, and the register's where the Rust has
+//! none.
 
 use std::collections::BTreeSet;
 
 use calls::{Answer, Call, Look, Machine, Settings, Who};
-use machine::Product;
 
 use crate::oracle::Oracle;
+use crate::watched::Watched;
 
 /// Everything is looked at after so many calls, and less often where a look is dear.
 const OFTEN: u64 = 8;
@@ -16,7 +17,7 @@ const MANY: u64 = 20_000;
 #[derive(Default)]
 pub struct Pair {
     rust: Oracle,
-    product: Product,
+    product: Watched,
     /// The calls since the last opening that went through, with those that looked.
     list: Vec<Call>,
     settings: Option<Settings>,
@@ -32,8 +33,10 @@ pub struct Pair {
 impl Machine for Pair {
     fn run(&mut self, call: &Call) -> Answer {
         let answer = self.compare(call);
-        self.calls += 1;
-        self.since_look += 1;
+        // A take is looked at after it, and not between it and what explains it.
+        let explains = matches!(call, Call::Look(Look::Explain { .. }));
+        self.calls += u64::from(!explains);
+        self.since_look += u64::from(!explains);
         let many = self
             .settings
             .as_ref()
@@ -60,7 +63,10 @@ impl Pair {
         let (theirs, ours) = (self.rust.run(call), self.product.run(call));
         self.note(call, &theirs);
         self.differs = !agree(&theirs, &ours);
-        theirs
+        match theirs {
+            Answer::Apart => ours,
+            theirs => theirs,
+        }
     }
 
     fn note(&mut self, call: &Call, answer: &Answer) {
@@ -86,9 +92,9 @@ impl Pair {
     }
 }
 
-/// Whether two answers agree: what the Rust does not run is not compared.
+/// Whether two answers agree: what the Rust does not run is not compared, and a breakdown agrees with nothing.
 pub fn agree(theirs: &Answer, ours: &Answer) -> bool {
-    *theirs == Answer::Apart || theirs == ours
+    *ours != Answer::Broke && (*theirs == Answer::Apart || theirs == ours)
 }
 
 /// The calls that tell everything: the dumps, and each reading call of all that it can be asked of.

@@ -5,6 +5,7 @@
 
 pub mod damage;
 pub mod dump;
+mod explained;
 pub mod ledger;
 pub mod profile;
 mod profiles;
@@ -25,7 +26,8 @@ use tally::Tally;
 pub use profiles::ALL as PROFILES;
 
 /// Runs `number` calls of `profile` and hands each with its answer to `sink`: what was counted,
-/// or the call at which the ledger does not agree or the profile reaches what it never must.
+/// or the call at which the ledger does not agree or the profile reaches what it never must. Each
+/// take is explained before it, by a machine that can.
 pub fn generate(
     machine: &mut impl Machine,
     profile: &'static Profile,
@@ -39,12 +41,18 @@ pub fn generate(
     let mut tally = Tally::default();
     for _ in 0..number {
         let call = scene.call();
+        let told = explained::before(machine, &call);
         let answer = machine.run(&call);
         sink(&call, &answer);
         let noted = ledger
             .saw(&call, &answer, |again| machine.run(again))
             .map_err(|why| format!("{call} => {answer}: {why}"))?;
         tally.count(&call, &answer, &noted);
+        if let Some(told) = told {
+            let reason = explained::after(machine, &told, &call, &answer, &noted)
+                .map_err(|why| format!("{call} => {answer}, explained as {told}: {why}"))?;
+            tally.explain(reason);
+        }
         if let Some(what) = tally.reached(profile.never) {
             return Err(format!("{call} => {answer}: {what} must never come"));
         }

@@ -12,7 +12,7 @@ use crate::{PROFILES, generate};
 pub const USAGE: &str = "generate|soak SEED N PROFILE|all, profiles";
 
 /// From so many calls on a profile must reach what it is meant to reach.
-const ENOUGH: u64 = 20_000;
+pub const ENOUGH: u64 = 20_000;
 
 /// Whether the list itself is printed.
 #[derive(Clone, Copy, PartialEq, Eq)]

@@ -3,14 +3,16 @@
 use std::collections::BTreeMap;
 use std::fmt;
 
-use calls::{Answer, Call, Verdict};
+use calls::{Answer, Call, Reason, Verdict};
 
-use crate::ledger::{Cause, Noted, Step};
+use crate::ledger::{Noted, Step};
 
 #[derive(Default)]
 pub struct Tally {
     pub calls: u64,
     counts: BTreeMap<&'static str, u64>,
+    /// The takes that were explained, by the rule that was told.
+    explained: BTreeMap<Reason, u64>,
 }
 
 /// Everything that is counted, in the order in which it is printed.
@@ -68,17 +70,17 @@ pub fn all_counted(names: &[&str]) {
     }
 }
 
-fn full(cause: Option<Cause>) -> &'static str {
-    match cause {
-        Some(Cause::Closed) => "full: closed",
-        Some(Cause::Share) => "full: share",
-        Some(Cause::Limit) => "full: limit",
-        Some(Cause::Part) => "full: part",
-        Some(Cause::Twice) => "full: twice",
-        Some(Cause::Places) => "full: places",
-        Some(Cause::Pairs) => "full: pairs",
-        Some(Cause::Slots) => "full: slots",
-        None => unreachable!("the ledger lets no Full pass without its cause"),
+fn full(reason: Option<Reason>) -> &'static str {
+    match reason {
+        Some(Reason::Closed) => "full: closed",
+        Some(Reason::OwnShare) => "full: share",
+        Some(Reason::ClassLimit) => "full: limit",
+        Some(Reason::EqualPart) => "full: part",
+        Some(Reason::TwiceLimit) => "full: twice",
+        Some(Reason::Places) => "full: places",
+        Some(Reason::Pairs) => "full: pairs",
+        Some(Reason::Slots) => "full: slots",
+        _ => unreachable!("the ledger lets no Full pass without its rule"),
     }
 }
 
@@ -86,11 +88,11 @@ fn verdict(verdict: Verdict, noted: &Noted) -> &'static str {
     match verdict {
         Verdict::New => "new",
         Verdict::Duplicate => "duplicate",
-        Verdict::Late if noted.clash => "late: position",
-        Verdict::Late if noted.inside => "late: floor",
+        Verdict::Late if noted.reason == Some(Reason::Position) => "late: position",
+        Verdict::Late if noted.outside.is_none() => "late: floor",
         Verdict::Late => "late: window",
         Verdict::Ahead => "ahead",
-        Verdict::Full => full(noted.cause),
+        Verdict::Full => full(noted.reason),
         Verdict::Unjudged => "unjudged",
     }
 }
@@ -165,6 +167,26 @@ impl Tally {
         }
     }
 
+    /// A take was explained, by this rule where it was not refused.
+    pub fn explain(&mut self, reason: Option<Reason>) {
+        if let Some(reason) = reason {
+            *self.explained.entry(reason).or_default() += 1;
+        }
+    }
+
+    /// The takes that were explained.
+    pub fn explained(&self) -> u64 {
+        self.explained.values().sum()
+    }
+
+    /// The rules that were told less often than once in 4,000 explained takes, which are 500 of two million.
+    pub fn unexplained(&self) -> Vec<String> {
+        let least = self.explained().div_ceil(4_000);
+        let times = |reason: &Reason| self.explained.get(reason).copied().unwrap_or(0);
+        let rare = Reason::ALL.iter().filter(|reason| times(reason) < least);
+        rare.map(Reason::to_string).collect()
+    }
+
     /// The first of what must never come that came.
     pub fn reached(&self, never: &'static [&'static str]) -> Option<&'static str> {
         never.iter().copied().find(|what| self.of(what) > 0)
@@ -185,6 +207,9 @@ impl Tally {
         for (what, number) in &other.counts {
             self.add(what, *number);
         }
+        for (reason, number) in &other.explained {
+            *self.explained.entry(*reason).or_default() += number;
+        }
     }
 }
 
@@ -194,6 +219,10 @@ impl fmt::Display for Tally {
         for what in COUNTED.into_iter().filter(|what| self.of(what) > 0) {
             write!(f, ", {what} {}", self.of(what))?;
         }
-        Ok(())
+        if self.explained() > 0 {
+            write!(f, "; {} takes explained", self.explained())?;
+        }
+        let mut rules = self.explained.iter();
+        rules.try_for_each(|(reason, number)| write!(f, ", {reason}: {number}"))
     }
 }

@@ -1,16 +1,19 @@
 //! Lent memory between pages that nobody may touch: a read or write past either end of it ends the program with a signal, which says
-//! at which input.
+//! at which input. What may only be read is lent in pages that cannot be written, with the same end.
 
-use std::ffi::{c_int, c_void};
-use std::ptr::slice_from_raw_parts_mut;
+use std::ffi::{c_char, c_int, c_uint, c_void};
+use std::ptr::{slice_from_raw_parts, slice_from_raw_parts_mut};
 use std::sync::atomic::{AtomicU64, Ordering};
 use std::time::Duration;
 
 const PAGE: usize = 4_096;
 
 const PROT_NONE: c_int = 0;
+const PROT_READ: c_int = 1;
 const PROT_READ_WRITE: c_int = 3;
+const MAP_SHARED: c_int = 0x01;
 const MAP_PRIVATE_ANONYMOUS: c_int = 0x22;
+const MAP_FIXED: c_int = 0x10;
 const SIGNALS: [c_int; 5] = [4, 6, 7, 8, 11];
 
 unsafe extern "C" {
@@ -22,7 +25,9 @@ unsafe extern "C" {
         file: c_int,
         offset: i64,
     ) -> *mut c_void;
-    fn mprotect(at: *mut c_void, length: usize, protection: c_int) -> c_int;
+    fn memfd_create(name: *const c_char, flags: c_uint) -> c_int;
+    fn ftruncate(file: c_int, length: i64) -> c_int;
+    fn close(file: c_int) -> c_int;
     fn signal(number: c_int, handler: extern "C" fn(c_int)) -> usize;
     fn write(file: c_int, bytes: *const u8, length: usize) -> isize;
     fn _exit(status: c_int) -> !;
@@ -37,9 +42,10 @@ pub enum Against {
     Back,
 }
 
-/// A region of memory with a guard page before and after it.
+/// A region of memory with a guard page before and after it. It is mapped twice: where it can be written, and where it can only be read.
 pub struct Region {
     start: *mut u8,
+    read_only: *const u8,
     length: usize,
     /// What the region has around the lent part.
     filled: Vec<u8>,
@@ -48,32 +54,53 @@ pub struct Region {
 /// What fills a region around the lent part.
 const FILL: u8 = 0xa5;
 
+/// Maps a file of so many bytes between two guard pages.
+fn map(file: c_int, length: usize, protection: c_int) -> *mut u8 {
+    unsafe {
+        let all = mmap(
+            std::ptr::null_mut(),
+            length + 2 * PAGE,
+            PROT_NONE,
+            MAP_PRIVATE_ANONYMOUS,
+            -1,
+            0,
+        );
+        assert!(all as isize != -1, "no memory");
+        let at = all.cast::<u8>().add(PAGE).cast();
+        let start = mmap(at, length, protection, MAP_SHARED | MAP_FIXED, file, 0);
+        assert!(start == at, "no memory");
+        start.cast()
+    }
+}
+
+/// Where a run was laid down.
+pub struct Laid<T> {
+    pub writable: *mut [T],
+    pub read_only: *const [T],
+}
+
+impl<T: Copy> Laid<T> {
+    /// A copy of what lies there.
+    pub fn seen(&self) -> Vec<T> {
+        unsafe { &*self.read_only }.to_vec()
+    }
+}
+
 impl Region {
     pub fn new(least: usize) -> Self {
         let length = least.div_ceil(PAGE).max(1) * PAGE;
-        let start = unsafe {
-            let all = mmap(
-                std::ptr::null_mut(),
-                length + 2 * PAGE,
-                PROT_NONE,
-                MAP_PRIVATE_ANONYMOUS,
-                -1,
-                0,
-            );
-            assert!(all as isize != -1, "no memory");
-            let start = all.cast::<u8>().add(PAGE);
-            assert_eq!(
-                mprotect(start.cast(), length, PROT_READ_WRITE),
-                0,
-                "no memory"
-            );
-            start
-        };
+        let file = unsafe { memfd_create(c"region".as_ptr(), 0) };
+        assert!(
+            file >= 0 && unsafe { ftruncate(file, length as i64) } == 0,
+            "no memory"
+        );
         let region = Self {
-            start,
+            start: map(file, length, PROT_READ_WRITE),
+            read_only: map(file, length, PROT_READ),
             length,
             filled: vec![FILL; length],
         };
+        unsafe { close(file) };
         region.all().fill(FILL);
         region
     }
@@ -84,22 +111,20 @@ impl Region {
         unsafe { std::slice::from_raw_parts_mut(self.start, self.length) }
     }
 
-    /// Lays bytes down at one end; where they lie.
-    pub fn lay(&mut self, bytes: &[u8], against: Against) -> *mut [u8] {
+    /// Lays bytes or words down at one end, words at a multiple of eight.
+    pub fn lay<T: Copy>(&mut self, run: &[T], against: Against) -> Laid<T> {
+        let bytes = unsafe { std::slice::from_raw_parts(run.as_ptr().cast(), size_of_val(run)) };
         let at = match against {
             Against::Front => 0,
             Against::Back => self.length - bytes.len(),
         };
-        let part = &mut self.all()[at..at + bytes.len()];
-        part.copy_from_slice(bytes);
-        part
-    }
-
-    /// The same for words, which lie at a multiple of eight at either end.
-    pub fn lay_words(&mut self, words: &[u64], against: Against) -> *mut [u64] {
-        let bytes =
-            unsafe { std::slice::from_raw_parts(words.as_ptr().cast::<u8>(), 8 * words.len()) };
-        slice_from_raw_parts_mut(self.lay(bytes, against).cast(), words.len())
+        self.all()[at..at + bytes.len()].copy_from_slice(bytes);
+        let (writable, read_only) =
+            unsafe { (self.start.add(at).cast(), self.read_only.add(at).cast()) };
+        Laid {
+            writable: slice_from_raw_parts_mut(writable, run.len()),
+            read_only: slice_from_raw_parts(read_only, run.len()),
+        }
     }
 
     /// Whether everything but the part laid down is as it was; then it is filled again.
@@ -140,7 +165,7 @@ extern "C" fn signalled(number: c_int) {
     tell(match number {
         4 => "a trap",
         6 => "an abort",
-        7 | 11 => "memory that was not lent was touched",
+        7 | 11 => "memory was touched that was not lent, or written that may only be read",
         _ => "an arithmetic fault",
     })
 }

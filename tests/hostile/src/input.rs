@@ -3,7 +3,7 @@
 use generator::damage;
 use generator::dump::{Dump, Listed, OVERFLOWING};
 use generator::random::Random;
-use soundness::{Call, Due, SETTINGS, refusal, view};
+use soundness::{Ask, Call, Due, SETTINGS, refusal, view};
 
 use crate::alter::{Altered, alter};
 use crate::scene::{Scene, anything};
@@ -155,6 +155,19 @@ impl Input {
             _ => (about + random.below(5) as usize)
                 .saturating_sub(2)
                 .min(MOST_VIEWED),
+        }
+    }
+
+    /// What a take is asked with these numbers.
+    pub fn ask(&self) -> Ask {
+        let n = self.numbers;
+        Ask {
+            register: n.register,
+            fingerprint: n.fingerprint,
+            stamp: n.stamp,
+            reading: n.reading,
+            flag: n.flag,
+            deliverer: (n.kind, n.number),
         }
     }
 

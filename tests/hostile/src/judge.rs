@@ -1,15 +1,17 @@
 //! What a call left, held against what is due.
 
-use soundness::{Due, broken, refusal, settings_of, view};
+use soundness::{Due, broken, reason, refusal, settings_of, view};
 
 use crate::guard::Against;
-use crate::input::{Input, Output};
+use crate::input::{Entry, Input, Output};
 use crate::lent::{After, BEFORE, Lent};
 
 /// The largest that an out number can be, by its name.
 fn most(input: &Input, out: &str) -> u64 {
     match out {
         "verdict" => 5,
+        "rule" => 15,
+        "class" => 2,
         "held" | "begun" | "whole" | "present" | "pending" => 1,
         "read" => input.bytes.len() as u64,
         "written" => input.output_length() as u64,
@@ -86,6 +88,12 @@ fn went_through(input: &Input, after: &After) -> Result<(), String> {
                 "{due:?} is due, but {:?} is written",
                 &after.view[..written]
             ));
+        }
+    }
+    if input.entry == Entry::explain {
+        let due = reason(&settings, &input.words, &input.ask());
+        if after.numbers[..outs.len()] != [due.rule, due.class, due.verdict] {
+            return Err(format!("{due:?} is due, but {:?} is told", after.numbers));
         }
     }
     if input.entry.only_reads() {

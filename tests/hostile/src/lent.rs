@@ -2,7 +2,7 @@
 
 use strikes::abi;
 
-use crate::guard::{Against, Region};
+use crate::guard::{Against, Laid, Region};
 use crate::input::{Entry, Input, MOST_VIEWED, Numbers};
 
 /// The out numbers of an entry point, at most.
@@ -34,11 +34,6 @@ pub struct After {
 /// What the out numbers are before a call.
 pub const BEFORE: [u64; OUTS] = [0xdead_0001, 0xdead_0002, 0xdead_0003, 0xdead_0004];
 
-/// A copy of what lies at a place that was laid down.
-fn seen<T: Copy>(at: *const [T]) -> Vec<T> {
-    unsafe { &*at }.to_vec()
-}
-
 impl Lent {
     pub fn new(words: usize) -> Self {
         Self {
@@ -56,17 +51,17 @@ impl Lent {
     pub fn run(&mut self, input: &Input, against: Against) -> After {
         let at = self.lay(input, against);
         let number = unsafe { call(input.entry, &at) };
-        let read_only = seen(at.settings) == input.settings
-            && seen(at.limits) == input.limits
-            && seen(at.starts) == input.starts
-            && seen(at.bytes) == input.bytes;
+        let read_only = at.settings.seen() == input.settings
+            && at.limits.seen() == input.limits
+            && at.starts.seen() == input.starts
+            && at.bytes.seen() == input.bytes;
         let mut told = [0; OUTS];
-        told.copy_from_slice(&seen(at.outs));
+        told.copy_from_slice(&at.outs.seen());
         let after = After {
             number,
-            words: seen(at.words),
-            out: seen(at.out),
-            view: seen(at.view),
+            words: at.words.seen(),
+            out: at.out.seen(),
+            view: at.view.seen(),
             numbers: told,
             untouched: read_only,
         };
@@ -88,15 +83,15 @@ impl Lent {
 
     fn lay(&mut self, input: &Input, against: Against) -> At {
         At {
-            settings: self.settings.lay_words(&input.settings, against),
-            words: self.words.lay_words(&input.words, against),
-            limits: self.limits.lay_words(&input.limits, against),
-            starts: self.starts.lay_words(&input.starts, against),
+            settings: self.settings.lay(&input.settings, against),
+            words: self.words.lay(&input.words, against),
+            limits: self.limits.lay(&input.limits, against),
+            starts: self.starts.lay(&input.starts, against),
             bytes: self.bytes.lay(&input.bytes, against),
             out: self.out.lay(&input.out, against),
-            view: self.view.lay_words(&input.view, against),
+            view: self.view.lay(&input.view, against),
             numbers: input.numbers,
-            outs: self.numbers.lay_words(&BEFORE, against),
+            outs: self.numbers.lay(&BEFORE, against),
         }
     }
 }
@@ -104,23 +99,27 @@ impl Lent {
 /// The arguments of all entry points by their names: runs, of which an output of words is the view, and numbers; and where the out
 /// numbers lie.
 struct At {
-    settings: *const [u64],
-    words: *mut [u64],
-    limits: *const [u64],
-    starts: *const [u64],
-    bytes: *const [u8],
-    out: *mut [u8],
-    view: *mut [u64],
+    settings: Laid<u64>,
+    words: Laid<u64>,
+    limits: Laid<u64>,
+    starts: Laid<u64>,
+    bytes: Laid<u8>,
+    out: Laid<u8>,
+    view: Laid<u64>,
     numbers: Numbers,
-    outs: *mut [u64],
+    outs: Laid<u64>,
 }
 
+/// What may be altered is lent where it can be written, and all else where it cannot.
 macro_rules! argument {
-    ($at:ident, out: u64) => {
-        $at.view
+    ($at:ident, out: mut u64) => {
+        $at.view.writable
+    };
+    ($at:ident, $run:ident: mut $of:ident) => {
+        $at.$run.writable
     };
     ($at:ident, $run:ident: $of:ident) => {
-        $at.$run
+        $at.$run.read_only
     };
     ($at:ident, $number:ident) => {
         $at.numbers.$number
@@ -135,11 +134,11 @@ macro_rules! calls {
         unsafe fn call(entry: Entry, at: &At) -> u64 {
             let mut places = 0..OUTS;
             let mut place_of = |out: &str| match places.next() {
-                Some(place) => unsafe { at.outs.cast::<u64>().add(place) },
+                Some(place) => unsafe { at.outs.writable.cast::<u64>().add(place) },
                 None => panic!("there is no place for {out}"),
             };
             match entry {
-                $(Entry::$name => unsafe { abi::$name($(argument!(at, $arg $(: $of)?),)* $(place_of(stringify!($out))),*) }),*
+                $(Entry::$name => unsafe { abi::$name($(argument!(at, $arg $(: $($mutable)? $of)?),)* $(place_of(stringify!($out))),*) }),*
             }
         }
     };

@@ -1,5 +1,6 @@
 //! Hostile memory: random and damaged words, settings, codes, dumps and lengths into every entry point, the lent memory between guard
-//! pages, and every answer held against a soundness test of its own (tests/soundness), and every view against the words that it is of.
+//! pages, and every answer held against a soundness test of its own (tests/soundness), and every view and every reason against the words
+//! that it is of. What a call may only read lies in pages that cannot be written.
 //!
 //!     hostile SEED N        N inputs
 //!     hostile one SEED I    input I alone

@@ -167,8 +167,7 @@ impl Book {
                 let entries = reading::held(&self.shares, who) as u64;
                 view(words.chain([entries]).collect(), length)
             }
-            // One that the Rust has no answer to, if there is any.
-            #[allow(unreachable_patterns)]
+            // What the Rust has no answer to, as the rule behind a verdict.
             _ => Answer::Apart,
         }
     }

@@ -1,12 +1,15 @@
-//! Whether lent words are sound, which refusal a call earns, and what a view of them tells: written from the scope paper ("Who causes which
-//! reply", "Settings and soundness", "Dump"), the request for views and the table of words in docs/ARCHITECTURE.md alone. It shares no line
-//! with the register, and is what the register's answers to damaged words are held against.
+//! Whether lent words are sound, which refusal a call earns, what a view of them tells, and which rule gives a take's verdict: written from
+//! the scope paper ("Who causes which reply", "Settings and soundness", "Judge and take", "Sweep and floor", "Entry shares", "Dump"), the
+//! requests for views and reasons and the table of words in docs/ARCHITECTURE.md alone. It shares no line with the register, and is what the
+//! register's answers to damaged words are held against.
 
 mod parts;
+mod reason;
 mod refusal;
 mod view;
 mod words;
 
+pub use reason::{Ask, Told, reason};
 pub use refusal::{Call, Due, refusal};
 pub use view::view;
 pub use words::{Broken, broken, sound};

@@ -31,21 +31,44 @@ pub fn places<'a>(
         .filter(|place| place[3] != 0)
 }
 
-/// A register's heading, and those of its generations that hold something, by class and position.
+/// The class of a deliverer.
+pub fn class_of((kind, number): (u64, u64)) -> u64 {
+    if kind == 3 { number } else { kind }
+}
+
+/// A deliverer's place. Of Relay and Restored the number in a place says nothing.
+pub fn place_of<'a>(
+    settings: &Settings,
+    words: &'a [u64],
+    deliverer: (u64, u64),
+) -> Option<&'a [u64]> {
+    let (kind, number) = deliverer;
+    places(settings, words, class_of(deliverer))
+        .find(|place| place[0] == kind && (kind > 1 || place[1] == number))
+}
+
+/// The entries, holders, units and `expired` of a class.
+pub fn totals<'a>(settings: &Settings, words: &'a [u64], class: u64) -> &'a [u64] {
+    &words[FRONT + class as usize * class_width(settings)..][..TOTALS]
+}
+
+/// A register's heading, and those of its generations that hold something, by class and position, each with its class.
 pub fn register<'a>(
     settings: &Settings,
     words: &'a [u64],
     number: u64,
-) -> (&'a [u64], impl Iterator<Item = &'a [u64]>) {
+) -> (&'a [u64], impl Iterator<Item = (u64, &'a [u64])>) {
     let (before, rest) = settings.windows.split_at(number as usize);
     let mut at = FRONT + 3 * class_width(settings);
     for windows in before {
         at += HEADING + 3 * windows.ring() as usize * (windows.slots as usize + HEAD);
     }
     let (heading, rings) = words[at..].split_at(HEADING);
+    let ring = rest[0].ring();
     let generations = rings
         .chunks(rest[0].slots as usize + HEAD)
-        .take(3 * rest[0].ring() as usize)
-        .filter(|generation| generation[1] != 0);
+        .zip(0..3 * ring)
+        .map(move |(generation, at)| (at / ring, generation))
+        .filter(|(_, generation)| generation[1] != 0);
     (heading, generations)
 }

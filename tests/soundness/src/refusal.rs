@@ -120,7 +120,7 @@ fn dump_refusal(settings: &Settings, words: &[u64], register: u64, out: usize) -
         return Some(6);
     }
     // A floor, a count for each class, and of each held generation its bucket, newest, length and fingerprints.
-    let listed: u64 = generations.map(|generation| 3 + generation[1]).sum();
+    let listed: u64 = generations.map(|(_, generation)| 3 + generation[1]).sum();
     ((out as u64) < 8 * (4 + listed)).then_some(5)
 }
 

@@ -1,6 +1,6 @@
 //! The rules tried one by one on the smallest words: one register of ring 2 and S 2, two places of two pairs.
 
-use crate::{Broken, Call, broken, refusal, settings_of, view};
+use crate::{Ask, Broken, Call, Told, broken, reason, refusal, settings_of, view};
 
 fn settings() -> [u64; 29] {
     let mut words = [0; 29];
@@ -215,6 +215,91 @@ fn a_view_is_refused_as_too_short_after_all_else() {
     assert_eq!(number(&opened(), None, Some((0, 77))), 8);
     words[REGISTER + 24 + 4] = 6;
     assert_eq!(number(&words, Some(1), None), 3);
+}
+
+/// With limits of 9, the book as `taken` has it: at 4 the generation of bucket 4 is held, and at 5 a sweep drops it.
+#[test]
+fn each_rule_is_named() {
+    let ask = |fingerprint, stamp, reading, deliverer| Ask {
+        register: 0,
+        fingerprint,
+        stamp,
+        reading,
+        flag: 1,
+        deliverer,
+    };
+    let (meter, other) = ((0, 77), (0, 78));
+    let off = Ask {
+        flag: 0,
+        ..ask(7, 4, 4, meter)
+    };
+    let (place, register) = (CLASSES + 4, REGISTER);
+    let second_place = [
+        (CLASSES, 3),
+        (CLASSES + 1, 2),
+        (CLASSES + 2, 5),
+        (place + 9, 78),
+        (place + 10, 1),
+        (place + 11, 1),
+        (place + 12, 9),
+        (place + 13, 1),
+    ];
+    let second_pair = [
+        (place + 3, 2),
+        (place + 5, 1),
+        (place + 6, 10),
+        (place + 7, 1),
+    ];
+    let twenty = [
+        (CLASSES, 20),
+        (CLASSES + 2, 21),
+        (place + 2, 20),
+        (place + 5, 20),
+        (6, 4),
+    ];
+    let swept_to_5 = [(register + 6, 5), (register + 7, 5)];
+    let floor = [(register + 8, 1), (register + 9, 4)];
+    let cases: [(&[(usize, u64)], Ask, [u64; 3]); 24] = [
+        (&[(register + 10, 1)], off, [1, 0, 5]),
+        (&[], off, [2, 0, 5]),
+        (&[], ask(7, 4, 4, meter), [3, 0, 1]),
+        (&floor, ask(7, 4, 4, (2, 5)), [3, 0, 1]),
+        (&floor, ask(8, 4, 4, meter), [4, 0, 2]),
+        (&[], ask(7, 5, 5, meter), [4, 0, 2]),
+        (&[], ask(7, 5, 9, meter), [4, 0, 2]),
+        (&[], ask(7, 6, 5, meter), [6, 0, 2]),
+        (&swept_to_5, ask(7, 4, 5, meter), [3, 0, 1]),
+        (&[], ask(8, 3, 4, meter), [5, 0, 2]),
+        (&[], ask(8, 5, 4, meter), [6, 0, 2]),
+        (&[(10, 1)], ask(8, 4, 4, meter), [7, 0, 4]),
+        (&[(5, 2)], ask(8, 4, 4, meter), [8, 0, 4]),
+        (&[(6, 4)], ask(8, 4, 4, (3, 0)), [9, 0, 4]),
+        (&[(6, 3)], ask(8, 4, 4, meter), [10, 0, 4]),
+        (&twenty, ask(8, 4, 4, other), [11, 0, 4]),
+        (&second_place, ask(8, 4, 4, (0, 79)), [12, 0, 4]),
+        (&second_pair, ask(8, 4, 4, meter), [13, 0, 4]),
+        (&swept_to_5, ask(8, 6, 6, meter), [14, 0, 2]),
+        (&swept_to_5, ask(8, 5, 5, meter), [0, 0, 0]),
+        (&[], ask(8, 4, 4, meter), [15, 0, 4]),
+        (&[], ask(8, 4, 4, (1, 77)), [0, 0, 0]),
+        (&[], ask(8, 6, 6, meter), [0, 0, 0]),
+        (&[], ask(8, 4, 4, (2, 0)), [0, 0, 0]),
+    ];
+    for (pokes, ask, [rule, class, verdict]) in cases {
+        let mut words = taken();
+        words[5..10].fill(9);
+        for (at, value) in pokes {
+            words[*at] = *value;
+        }
+        let fit = settings_of(&settings()).expect("fit settings");
+        assert_eq!(broken(&fit, &words), None, "{pokes:?}");
+        let due = Told {
+            rule,
+            class,
+            verdict,
+        };
+        assert_eq!(reason(&fit, &words, &ask), due, "{pokes:?}, {ask:?}");
+    }
 }
 
 #[test]

@@ -17,15 +17,12 @@ pub fn view(settings: &Settings, call: &Call<'_>) -> Option<Vec<u64>> {
 fn of_register(settings: &Settings, words: &[u64], number: u64) -> Vec<u64> {
     let (_, generations) = parts::register(settings, words, number);
     generations
-        .flat_map(|generation| [generation[3], generation[4], generation[2], generation[1]])
+        .flat_map(|(_, generation)| [generation[3], generation[4], generation[2], generation[1]])
         .collect()
 }
 
-/// Of Relay and Restored the number in a place says nothing.
-fn of_deliverer(settings: &Settings, words: &[u64], (kind, number): (u64, u64)) -> Vec<u64> {
-    let class = if kind == 3 { number } else { kind };
-    let mut places = parts::places(settings, words, class);
-    match places.find(|place| place[0] == kind && (kind > 1 || place[1] == number)) {
+fn of_deliverer(settings: &Settings, words: &[u64], deliverer: (u64, u64)) -> Vec<u64> {
+    match parts::place_of(settings, words, deliverer) {
         Some(place) => [&place[4..4 + 2 * place[3] as usize], &place[2..3]].concat(),
         None => vec![0],
     }

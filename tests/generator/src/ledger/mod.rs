@@ -18,10 +18,9 @@ mod table;
 use std::collections::HashSet;
 
 use calls::call::Ticket;
-use calls::{Answer, Call, Form, Look, Start, Verdict};
+use calls::{Answer, Call, Form, Look, Reason, Start, Verdict};
 
 use crate::dump::{self, Dump};
-pub use shares::Cause;
 use shares::{Draw, Shares};
 pub use table::Step;
 use table::Table;
@@ -29,14 +28,12 @@ use table::Table;
 /// What a call showed, beside its answer.
 #[derive(Default)]
 pub struct Noted {
-    /// Why a take was Full.
-    pub cause: Option<Cause>,
-    /// A take that judge would have called New was Late, for its position was taken.
-    pub clash: bool,
+    /// The rule that gave a take's verdict; none where it was the floor or the window, and only the floor tells which.
+    pub reason: Option<Reason>,
+    /// The side on which the ticket was outside its window.
+    pub outside: Option<Reason>,
     /// A ticket struck before was asked for again.
     pub struck: bool,
-    /// The ticket was inside its window.
-    pub inside: bool,
     /// The equal part's promise was due.
     pub modest: bool,
     /// The promise of a steady clock was due.
@@ -63,7 +60,7 @@ pub struct Ledger {
 
 type Seen = Result<Noted, String>;
 
-fn must(holds: bool, why: impl FnOnce() -> String) -> Result<(), String> {
+pub fn must(holds: bool, why: impl FnOnce() -> String) -> Result<(), String> {
     if holds { Ok(()) } else { Err(why()) }
 }
 
@@ -154,25 +151,33 @@ impl Ledger {
             format!("judges is {judges}")
         })?;
         if !judges {
-            return Ok(Noted::default());
+            let unjudged = match table.pending {
+                true => Reason::Pending,
+                false => Reason::Flag,
+            };
+            return Ok(Noted {
+                reason: Some(unjudged),
+                ..Noted::default()
+            });
         }
         let step = table.sweep(ticket.reading);
         if form.takes() {
             table.takes_at(ticket.reading);
         }
-        let inside = table.inside(ticket);
+        let outside = table.outside(ticket);
         let fingerprint = ticket.fingerprint.max(1);
-        let held = table.holds(fingerprint, ticket.stamp);
-        must(held == (verdict == Verdict::Duplicate), || {
-            format!("held is {held}")
+        let holder = table.holder(fingerprint, ticket.stamp);
+        must(holder.is_some() == (verdict == Verdict::Duplicate), || {
+            format!("held is {holder:?}")
         })?;
         let struck = self.struck[ticket.register as usize].contains(&(fingerprint, ticket.stamp));
         must(!(struck && verdict == Verdict::New), || {
             "New a second time".into()
         })?;
         let mut noted = Noted {
+            reason: holder.map(|class| Reason::Held(class as u64)),
+            outside,
             struck,
-            inside,
             step,
             ..Noted::default()
         };
@@ -209,15 +214,14 @@ impl Ledger {
             format!("a modest party is owed {promised}")
         })?;
         let refused = self.shares.refuses(&draw);
-        let (due, cause) = match (refused, clash, crowded) {
-            (Some(cause), _, _) => (Verdict::Full, Some(cause)),
-            (None, true, _) => (Verdict::Late, None),
-            (None, false, true) => (Verdict::Full, Some(Cause::Slots)),
-            (None, false, false) => (Verdict::New, None),
+        let (due, reason) = match (refused, clash, crowded) {
+            (Some(reason), _, _) => (Verdict::Full, reason),
+            (None, true, _) => (Verdict::Late, Reason::Position),
+            (None, false, true) => (Verdict::Full, Reason::Slots),
+            (None, false, false) => (Verdict::New, Reason::Accepted),
         };
-        must(verdict == due, || format!("{due} is due, {cause:?}"))?;
-        noted.cause = cause;
-        noted.clash = due == Verdict::Late;
+        must(verdict == due, || format!("{due} is due, {reason}"))?;
+        noted.reason = Some(reason);
         if due == Verdict::New {
             self.shares.enter(&draw);
             table.insert(who.class(), bucket, ticket.fingerprint.max(1));

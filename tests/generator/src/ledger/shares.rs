@@ -2,24 +2,7 @@
 
 use std::collections::BTreeMap;
 
-use calls::{Answer, Limits, Settings, Who};
-
-/// Why a take was Full.
-#[derive(Clone, Copy, Debug, PartialEq, Eq)]
-pub enum Cause {
-    Closed,
-    /// The deliverer has its own share.
-    Share,
-    /// Relay and Restored: the class has its limit.
-    Limit,
-    /// Above the limit, and own units above the equal part.
-    Part,
-    /// Above twice the limit.
-    Twice,
-    Places,
-    Pairs,
-    Slots,
-}
+use calls::{Answer, Limits, Reason, Settings, Who};
 
 /// An entry asked for: by whom, and the second in which it expires.
 pub struct Draw {
@@ -127,41 +110,41 @@ impl Shares {
     }
 
     /// Whether P or E has no room for the draw.
-    fn no_room(&self, draw: &Draw) -> Option<Cause> {
+    fn no_room(&self, draw: &Draw) -> Option<Reason> {
         let class = &self.classes[draw.who.class()];
         match class.places.get(&draw.who) {
-            None if class.places.len() as u64 >= self.settings.places => Some(Cause::Places),
+            None if class.places.len() as u64 >= self.settings.places => Some(Reason::Places),
             Some(pairs)
                 if !pairs.contains_key(&draw.second)
                     && pairs.len() as u64 >= self.settings.pairs =>
             {
-                Some(Cause::Pairs)
+                Some(Reason::Pairs)
             }
             _ => None,
         }
     }
 
     /// Why the draw is refused, if it is.
-    pub fn refuses(&self, draw: &Draw) -> Option<Cause> {
+    pub fn refuses(&self, draw: &Draw) -> Option<Reason> {
         let after = self.after(draw);
         if self.closed {
-            return Some(Cause::Closed);
+            return Some(Reason::Closed);
         }
         if self
             .share(draw.who)
             .is_some_and(|share| after.entries >= share)
         {
-            return Some(Cause::Share);
+            return Some(Reason::OwnShare);
         }
         if after.class_units > after.together {
             if !shared(draw.who) {
-                return Some(Cause::Limit);
+                return Some(Reason::ClassLimit);
             }
             if after.own_units > after.together / after.holders {
-                return Some(Cause::Part);
+                return Some(Reason::EqualPart);
             }
             if after.class_units > 2 * after.together {
-                return Some(Cause::Twice);
+                return Some(Reason::TwiceLimit);
             }
         }
         self.no_room(draw)

@@ -3,7 +3,7 @@
 use std::collections::{BTreeMap, BTreeSet};
 
 use calls::call::Ticket;
-use calls::{Answer, Who, Windows};
+use calls::{Answer, Reason, Who, Windows};
 
 use super::shares::second;
 use crate::dump::{self, Dump};
@@ -88,14 +88,17 @@ impl Table {
         }
     }
 
-    /// Whether the ticket's stamp is inside its deliverer's window.
-    pub fn inside(&self, ticket: &Ticket) -> bool {
+    /// On which side the ticket's stamp is outside its deliverer's window, behind or ahead.
+    pub fn outside(&self, ticket: &Ticket) -> Option<Reason> {
         let window = match ticket.who.listed() {
             Some(Who::Feeder(_)) => self.windows.origin,
             _ => self.windows.copy,
         };
-        ticket.stamp.saturating_add(window.behind) >= ticket.reading
-            && ticket.stamp <= ticket.reading.saturating_add(window.ahead)
+        if ticket.stamp.saturating_add(window.behind) < ticket.reading {
+            return Some(Reason::Behind);
+        }
+        let front = ticket.reading.saturating_add(window.ahead);
+        (ticket.stamp > front).then_some(Reason::Ahead)
     }
 
     /// How the reading went; none while it is pending.
@@ -126,14 +129,10 @@ impl Table {
         self.swept = through;
     }
 
-    /// Whether any class holds the fingerprint in the stamp's bucket.
-    pub fn holds(&self, fingerprint: u64, stamp: u64) -> bool {
+    /// The lowest class that holds the fingerprint in the stamp's bucket.
+    pub fn holder(&self, fingerprint: u64, stamp: u64) -> Option<usize> {
         let bucket = self.windows.bucket_of(stamp);
-        let at = self.position(bucket);
-        self.rings
-            .iter()
-            .filter_map(|ring| ring.get(&at))
-            .any(|held| held.bucket == bucket && held.fingerprints.contains(&fingerprint))
+        (0..self.rings.len()).find(|class| self.knows(*class, bucket, fingerprint))
     }
 
     pub fn holds_anywhere(&self, fingerprint: u64) -> bool {

@@ -105,6 +105,12 @@ enum-known-answer-10 c = search needs
 one-requires-8 : tie.Need-one-requires-8
 one-requires-8 c κs = search needs
 
+enum-known-answer-11 : tie.Need-enum-known-answer-11
+enum-known-answer-11 c = search needs
+
+send-reason-requires : tie.Need-send-reason-requires
+send-reason-requires c κs = search needs
+
 returns : tie.Need-returns
 unfolding answer-number answer-values
 returns c = as-sent (c .before .before .answer .given .1) (c .alone .ensures) (record { number = refl; values = refl; few = omega arith; rest = refl })
@@ -171,6 +177,10 @@ returns-16 : tie.Need-returns-16
 unfolding answer-number answer-values
 returns-16 c = as-sent (c .before .before .answer10 .given .1) (c .one8 .ensures) (record { number = refl; values = refl; few = omega arith; rest = refl })
 
+returns-17 : tie.Need-returns-17
+unfolding answer-number answer-values
+returns-17 c = as-sent (c .before .before .answer11 .given .1) (c .send-reason .ensures) (record { number = refl; values = refl; few = omega arith; rest = refl })
+
 pub send-spec : {M : Type 1} → statement M
 send-spec =
     tie.close
@@ -208,6 +218,8 @@ send-spec =
     four-requires
     enum-known-answer-10
     one-requires-8
+    enum-known-answer-11
+    send-reason-requires
     returns
     returns-2
     returns-3
@@ -223,4 +235,5 @@ send-spec =
     returns-13
     returns-14
     returns-15
-    returns-16)
+    returns-16
+    returns-17)

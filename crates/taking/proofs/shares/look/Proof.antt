@@ -9,15 +9,11 @@ find-requires c κs = search needs
 draw-requires : tie.Need-draw-requires
 draw-requires c κs = let s = c .before .before in (draw-asks (s .args .b) (s .args .who) (s .args .second .0) (s .args .part .now) _ (c .find .ensures) (s .pre .0), s .pre .1)
 
-is-granted-requires : tie.Need-is-granted-requires
-is-granted-requires c κs = search needs
-
 returns : tie.Need-returns
 returns c =
-    let s = c .before .before .before .before in
-    let find = c .before .before .find in
-    share-reads (s .args .b) (s .args .who) (s .args .second .0) (s .args .part .now) _ (find .ensures) (s .args .limits) (s .args .closed) _ _
-    (c .before .draw .ensures) (c .is-granted .ensures)
+    let s = c .before .before .before in
+    share-reads (s .args .b) (s .args .who) (s .args .second .0) (s .args .part .now) _ (c .before .find .ensures) (s .args .limits) (s .args .closed) _
+    (c .draw .ensures)
 
 pub look-spec : {M : Type 1} → statement M
-look-spec = tie.close (tie.spec find-requires draw-requires is-granted-requires returns)
+look-spec = tie.close (tie.spec find-requires draw-requires returns)
