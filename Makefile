@@ -1,5 +1,5 @@
 # The commands of README.md.
-.PHONY: run test differential hostile crashes soak bench install clean
+.PHONY: run test differential hostile stamps crashes soak bench install clean
 
 # Where `make install` puts things, and the folder that stands before it while a package is made.
 PREFIX ?= /usr/local
@@ -17,7 +17,7 @@ test:
 build/libstrikes.a: $(shell hosts/archive sources)
 	@hosts/archive
 
-# The host programs: the register as a program (demo, replay, view, explain, meter, soak), and a small gateway in C and in Rust.
+# The host programs: the register as a program (demo, replay, view, explain, provoke, meter, soak), and a small gateway in C and in Rust.
 build/strikes: build/libstrikes.a $(wildcard hosts/*/src/*.rs hosts/*/src/*/*.rs tests/calls/src/*.rs tests/generator/src/*.rs tests/generator/src/*/*.rs)
 	@hosts/build strikes
 build/gateway: build/libstrikes.a include/strikes.h $(wildcard hosts/c/*.c hosts/c/*.h)
@@ -41,6 +41,12 @@ INPUTS ?= 2000000
 hostile: build/libstrikes.a
 	@hosts/build hostile
 	build/hostile $(SEED) $(INPUTS)
+
+# The smallest stamp for a verdict against takes with every stamp: QUESTIONS of them, from SEED.
+QUESTIONS ?= 100000
+stamps: build/libstrikes.a
+	@hosts/build stamps
+	build/stamps $(SEED) $(QUESTIONS)
 
 # Gateways that are killed and started again: KILLS of them in C, in Rust, and of both on one folder.
 KILLS ?= 1000

@@ -33,8 +33,8 @@
 
 /* The call went through. */
 #define STRIKES_OK 0
-/* Unfit: settings, limits or starts of another length, a setting or a limit out of bounds, or a code (deliverer, class, start, flag)
-   that is not listed. */
+/* Unfit: settings, limits or starts of another length, a setting or a limit out of bounds, or a code (deliverer, class, start, flag,
+   verdict) that is not listed. */
 #define STRIKES_UNFIT 1
 /* Fewer words are lent than the settings need. */
 #define STRIKES_TOO_FEW_WORDS 2
@@ -223,6 +223,15 @@ uint64_t strikes_take_batch(const uint64_t *settings, size_t settings_length, ui
 uint64_t strikes_explain(const uint64_t *settings, size_t settings_length, const uint64_t *words, size_t words_length,
                          uint64_t register_number, uint64_t fingerprint, uint64_t stamp, uint64_t reading, uint64_t flag, uint64_t kind,
                          uint64_t number, uint64_t *rule, uint64_t *class_number, uint64_t *verdict);
+
+/* The smallest stamp for which strikes_take_batch would give the wanted verdict on the same words, with the same other arguments. wanted: a
+   verdict's number, STRIKES_NEW to STRIKES_UNJUDGED. found: 1 where there is such a stamp, else 0; then no 64-bit stamp gives it. stamp: the
+   smallest, or 0. Nothing is altered. At most 7 times the ring and 4 stamps are tried, so at most 1,796; each costs about what
+   strikes_explain reads.
+   Refusals: 1 to 4; 1 also for a flag or a deliverer that is not listed, and for a wanted verdict above 5. */
+uint64_t strikes_stamp_for(const uint64_t *settings, size_t settings_length, const uint64_t *words, size_t words_length,
+                           uint64_t register_number, uint64_t fingerprint, uint64_t reading, uint64_t flag, uint64_t kind,
+                           uint64_t number, uint64_t wanted, uint64_t *found, uint64_t *stamp);
 
 /* held: 1 where the fingerprint is held in any bucket of any class, swept or not, else 0.
    Refusals: 1 to 4. */

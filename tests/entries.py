@@ -66,6 +66,7 @@ FAULTS = [
     (TABLE, r"words: &mut \[u64\], reading", "words: &[u64], reading"),
     (TABLE, r"\(whole, read\)", "(read, whole)"),
     (TABLE, r"\(rule, class, verdict\)", "(rule, verdict, class)"),
+    (TABLE, r"\(found, stamp\)", "(stamp, found)"),
     (TABLE, r"\bpending\(", "waiting("),
     (CODE, r"flag: u64,\s+floor: u64", "floor: u64, flag: u64"),
     (CODE, r"#\[no_mangle\]\s", ""),
@@ -77,8 +78,10 @@ FAULTS = [
     (LOOKS, r"\(register, fingerprint\)", "(fingerprint, register)"),
     (LOOKS, r"\(who: Who\)", "(who)"),
     (LOOKS, r"flag, who: Who\)", "who: Who, flag)"),
+    (LOOKS, r"who: Who, wanted: Wanted\)", "wanted: Wanted, who: Who)"),
     (LOOKS, r", length: Length\)", ")"),
     (STACK, r"\bclass_number\b", "class"),
+    (STACK, r"\bwanted\b", "verdict"),
     (STACK, r"\bstarts_length\b", "starts"),
 ]
 
@@ -150,9 +153,11 @@ def of_table(text):
 
 
 def of_looks(text):
-    """What reading calls hand to their entry points beside settings and words, by name; a deliverer is two numbers, a length an output."""
+    """What reading calls hand to their entry points beside settings and words, by name; a deliverer is two numbers, a wanted verdict one,
+    a length an output."""
     lines = re.findall(r"^ +[A-Z]\w* (\w+)\((.*)\) -> \w+;$", text, flags=re.M)
-    return {name: parts(said.replace("who: Who", "kind, number").replace("length: Length", "out")) for name, said in lines}
+    handed = {"who: Who": "kind, number", "wanted: Wanted": "wanted", "length: Length": "out"}
+    return {name: parts(re.sub("|".join(handed), lambda part: handed[part[0]], said)) for name, said in lines}
 
 
 def members(text):

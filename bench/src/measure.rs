@@ -46,6 +46,55 @@ pub fn nanoseconds(times: u64, mut act: impl FnMut()) -> f64 {
     start.elapsed().as_nanos() as f64 / times as f64
 }
 
+/// Something that is timed over and over: its name, how often it is repeated, and what was measured.
+pub struct Measure<'a> {
+    pub name: &'static str,
+    act: Box<dyn FnMut() + 'a>,
+    times: u64,
+    pub figures: Figures,
+}
+
+#[derive(Default)]
+pub struct Measures<'a>(pub Vec<Measure<'a>>);
+
+impl<'a> Measures<'a> {
+    pub fn add(&mut self, name: &'static str, mut act: impl FnMut() + 'a) {
+        let times = repeats(&mut act);
+        self.0.push(Measure {
+            name,
+            act: Box::new(act),
+            times,
+            figures: Figures::default(),
+        });
+    }
+
+    /// In each run the measures take turns, and the least time of each counts.
+    pub fn run(&mut self, runs: usize) {
+        let long = self.0.iter().any(|measure| measure.times == 1);
+        for _ in 0..runs {
+            let mut least = vec![f64::MAX; self.0.len()];
+            for _ in 0..if long { FEW_TIMES } else { TIMES } {
+                for (measure, least) in self.0.iter_mut().zip(&mut least) {
+                    warm_up(&mut measure.act);
+                    *least = least.min(nanoseconds(measure.times, &mut measure.act));
+                }
+            }
+            for (measure, least) in self.0.iter_mut().zip(least) {
+                measure.figures.0.push(least);
+            }
+        }
+    }
+
+    pub fn of(&self, name: &str) -> &Figures {
+        &self
+            .0
+            .iter()
+            .find(|measure| measure.name == name)
+            .expect("a measure")
+            .figures
+    }
+}
+
 /// The figures of several runs.
 #[derive(Clone, Default)]
 pub struct Figures(pub Vec<f64>);
@@ -65,6 +114,11 @@ impl Figures {
     /// The ratio of each run's figure to the other's of the same run.
     pub fn to(&self, other: &Self) -> Self {
         Self(self.0.iter().zip(&other.0).map(|(a, b)| a / b).collect())
+    }
+
+    /// Each run's figure divided by a number.
+    pub fn by(&self, number: f64) -> Self {
+        Self(self.0.iter().map(|a| a / number).collect())
     }
 
     pub fn minus(&self, other: &Self) -> Self {

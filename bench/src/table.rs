@@ -10,56 +10,9 @@ use strikes::raw;
 
 use crate::book::Book;
 use crate::both::{self, Ours, READING};
-use crate::measure::{FEW_TIMES, Figures, TIMES, nanoseconds, repeats, short, warm_up};
+use crate::measure::{FEW_TIMES, Figures, Measures, nanoseconds, short};
 use crate::settings::{Fill, Size};
-
-/// Something that is timed over and over: its name, how often it is repeated, and what was measured.
-struct Measure<'a> {
-    name: &'static str,
-    act: Box<dyn FnMut() + 'a>,
-    times: u64,
-    figures: Figures,
-}
-
-struct Measures<'a>(Vec<Measure<'a>>);
-
-impl<'a> Measures<'a> {
-    fn add(&mut self, name: &'static str, mut act: impl FnMut() + 'a) {
-        let times = repeats(&mut act);
-        self.0.push(Measure {
-            name,
-            act: Box::new(act),
-            times,
-            figures: Figures::default(),
-        });
-    }
-
-    /// In each run the measures take turns, and the least time of each counts.
-    fn run(&mut self, runs: usize) {
-        let long = self.0.iter().any(|measure| measure.times == 1);
-        for _ in 0..runs {
-            let mut least = vec![f64::MAX; self.0.len()];
-            for _ in 0..if long { FEW_TIMES } else { TIMES } {
-                for (measure, least) in self.0.iter_mut().zip(&mut least) {
-                    warm_up(&mut measure.act);
-                    *least = least.min(nanoseconds(measure.times, &mut measure.act));
-                }
-            }
-            for (measure, least) in self.0.iter_mut().zip(least) {
-                measure.figures.0.push(least);
-            }
-        }
-    }
-
-    fn of(&self, name: &str) -> &Figures {
-        &self
-            .0
-            .iter()
-            .find(|measure| measure.name == name)
-            .expect("a measure")
-            .figures
-    }
-}
+use crate::stamps;
 
 /// The tickets that are judged in turn, too many for a processor to know what becomes of them.
 const TICKETS: u64 = 131_072;
@@ -105,6 +58,7 @@ pub fn of(size: &Size, fill: Fill, runs: usize) -> String {
     });
     let dump = both::dump(&settings, fill, 1);
     out += &calls(size, fill, dump.as_deref(), runs);
+    out += &stamps::table(size, fill, runs);
     out
 }
 
@@ -127,7 +81,7 @@ fn soundness(size: &Size, fill: Fill, contents: u64, runs: usize) -> Named {
     };
     let mut judged: Vec<Vec<u64>> = all.iter().map(|ours| ours.words.clone()).collect();
     let [mut a, mut b, mut c, mut d] = [0; 4];
-    let mut measures = Measures(Vec::new());
+    let mut measures = Measures::default();
     measures.add("sum", || {
         black_box(sum(black_box(&next(&mut a).words)));
     });
@@ -384,7 +338,7 @@ fn repeated(
     let book = RefCell::new(&mut book);
     let theirs = RefCell::new(&mut theirs);
     let (mut a, mut b, mut c) = (0, 0, 0);
-    let mut measures = Measures(Vec::new());
+    let mut measures = Measures::default();
     measures.add("floor", || look(&other));
     measures.add("ours", || {
         a += 1;

@@ -4,9 +4,10 @@
     tests/product/faults.py [FAULT ...]
 
 A fault is a list of edits, each a file, an anchor that must stand in it exactly once, and what stands in its place: the faults of
-tests/oracle/faults.py, put into the register, and misreadings of what the Rust has not, the rule behind a verdict. The proofs would refuse each of them, so the copy is run by `rt try`, which proves
-nothing; `rt try` compares what crates/replay writes with its file `stdout`. Its interpreter takes no list of this length, so that
-what counts is the program compiled at -O3. Status 0 only if the source without a fault agrees and every fault is noticed.
+tests/oracle/faults.py, put into the register, and misreadings of what the Rust has not: the rule behind a verdict, and the smallest stamp
+for one. The proofs would refuse each of them, so the copy is run by `rt try`, which proves nothing; `rt try` compares what crates/replay
+writes with its file `stdout`. Its interpreter takes no list of this length, so that what counts is the program compiled at -O3. Status 0
+only if the source without a fault agrees and every fault is noticed.
 """
 
 import shutil
@@ -22,6 +23,7 @@ COPY = Path(FOLDER.name) / "product"
 
 DECIDE = "book/src/decide.rt"
 SEEN = "register/src/peeking.rt"
+TRIES = "seeking/src/tries.rt"
 GENERATION = "generation/src/lib.rt"
 
 FAULTS = {
@@ -104,6 +106,19 @@ FAULTS = {
     "explain-slots-for-position": [("taking/src/explaining.rt", "Room::Collides => Reason::Position,", "Room::Collides => Reason::Slots,")],
     # Judge's verdict for take's.
     "explain-judges-alone": [("taking/src/explaining.rt", "    explain_share(run, s, r, extent, seen, ticket)\n", "    first\n")],
+    # A stamp that is not tried: each kind of them.
+    "stamp-0-untried": [(TRIES, "let zero = better(run, q, 0, none);", "let zero = none;")],
+    "stamp-window-start-untried": [(TRIES, "better(run, q, capped::capped_sub(reading.0, window.behind), zero)", "zero")],
+    "stamp-past-front-untried": [(TRIES, "better(run, q, capped::capped_add(front, 1), first)", "first")],
+    "stamp-above-floor-untried": [(TRIES, "    better(run, q, capped::capped_add(q.seen.floor, 1), best)\n", "    best\n")],
+    "stamp-window-two-buckets-short": [(TRIES, "while k < ring {", "while k + 2 < ring {")],
+    "stamp-of-bucket-untried": [(TRIES, "let first = better(run, q, spans::first_stamp(u, bucket, 0), best);", "let first = best;")],
+    "stamp-after-bucket-untried": [(TRIES, "    better(run, q, spans::first_stamp(u, bucket, 1), first)\n", "    first\n")],
+    # The last that is found, for the least.
+    "stamp-last-found": [(TRIES, "    if best.found & (best.stamp <= stamp) {\n        return best;\n    }\n", "")],
+    # Take's verdict for take_batch's.
+    "stamp-for-take": [("seeking/src/asking.rt", "register::ahead_for(past, ", "register::ahead_for(past & false, ")],
+    "stamp-any-code": [("strikes/src/lib.rt", "ticket.listed & listed", "ticket.listed")],
 }
 
 

@@ -44,7 +44,7 @@ static struct {
     uint8_t *bytes;
     void *out; /* bytes of a dump, words of a view */
     size_t settings_length, limits_length, starts_length, words_length, bytes_length, out_length;
-    uint64_t register_number, fingerprint, stamp, reading, flag, kind, number, class_number, floor;
+    uint64_t register_number, fingerprint, stamp, reading, flag, kind, number, wanted, class_number, floor;
 } next = {.limits_length = STRIKES_LIMITS, .starts_length = STRIKES_STARTS};
 static uint64_t told[OUT_NUMBERS], status;
 
@@ -151,12 +151,13 @@ static void calls_under(uint64_t registers, uint64_t places, uint64_t pairs, uin
         next.flag = below(20) ? 1 : below(3);
         next.kind = below(40) ? below(4) : 4;
         next.number = next.floor = below(3);
+        next.wanted = below(7);
         next.class_number = below(4);
         next.settings_length = below(60) ? STRIKES_SETTINGS : 28;
         next.words_length = below(60) ? needed : needed - 1;
         next.out_length = below(10) ? 8 * needed : below(64);
-        static const int tickets[] = {is_take, is_take_batch, is_explain};
-        int which = below(3) ? tickets[below(3)] : (int)below(ENTRIES);
+        static const int tickets[] = {is_take, is_take_batch, is_explain, is_stamp_for};
+        int which = below(3) ? tickets[below(4)] : (int)below(ENTRIES);
         if (which == is_open && below(10))
             which = is_restore;
         if (which == is_close && below(10))

@@ -19,8 +19,8 @@ use Rattle.model.specs.Judge.{Ask}
 use Rattle.model.specs.Words.{State}
 use Rattle.model.specs.Codes.{went-through}
 use Rattle.model.specs.Calls.{Manner, judged, judged-batch, taken, taken-batch, Deed, Ticket, ContainsHash, Begin, Sweep, DumpTo, Restore, Resume, Floor, Pending}
-use Rattle.model.specs.Calls.{SweptBucket, ViewRegister, Explain, ViewDeliverer, Call, Open, On, Expire, SetLimits, Close, HeldBy, ClassTotals}
-use Rattle.model.specs.Calls.{no-register, register-at, opened, yes-no, floor-answer}
+use Rattle.model.specs.Calls.{SweptBucket, ViewRegister, Explain, StampFor, ViewDeliverer, Call, Open, On, Expire, SetLimits, Close, HeldBy, ClassTotals}
+use Rattle.model.specs.Calls.{no-register, register-at, opened, yes-no, floor-answer, sought, stamp-answer}
 use Rattle.model.specs.Calls.{Asking, manner-sort, ask-of, reading-of-ask, proven-of, asked, after-judged}
 use Rattle.model.specs.Calls.{after-taken, after-restored, restored, resumed, least-published, class-totals, opens, beyond}
 use Rattle.model.specs.Calls.{deed-fits, deed-refusals, done-on, meaning, codes-fit}
@@ -58,6 +58,11 @@ floor-through : (f : Option ℕ) → Through (floor-answer f)
 unfolding went-through
 floor-through none = refl
 floor-through (some f) = refl
+
+stamp-through : (x : Option ℕ) → Through (stamp-answer x)
+unfolding went-through
+stamp-through none = refl
+stamp-through (some x) = refl
 
 begun-through : (b : Bool) → Through (cond b Begun Already)
 unfolding went-through
@@ -212,6 +217,7 @@ deed-lawful r Pending = reader refl (λ s t. refl) (λ s t. yes-no-through (regi
 deed-lawful r SweptBucket = reader refl (λ s t. refl) (λ s t. refl) (λ s t. refl)
 deed-lawful r (ViewRegister out) = reader refl (λ s t. refl) (λ s t. refl) (λ s t. refl)
 deed-lawful r (Explain a) = reader refl (λ s t. refl) (λ s t. refl) (λ s t. refl)
+deed-lawful r (StampFor q) = reader refl (λ s t. refl) (λ s t. stamp-through (sought s r q t)) (λ s t. refl)
 
 -- ---- every call
 pub lawful : (call : Call) → Lawful (meaning call)

@@ -18,6 +18,8 @@ pub mod Struck
 pub mod Visited
 pub mod Peeked
 pub mod Steady
+pub mod Breaks
+pub mod Least
 pub mod Bounds
 pub mod RingsKept
 pub mod Strike
@@ -27,6 +29,7 @@ pub mod RestoreKept
 pub mod RestoreStruck
 pub mod SoundnessKept
 pub mod SteadyKept
+pub mod Still
 pub mod EveryCall
 pub mod Simulates
 pub mod Guarded
@@ -70,5 +73,6 @@ pub mod OwnDump
 pub mod SameAnswers
 pub mod WorkedOnWords
 pub mod ToldApart
+pub mod Smallest
 pub mod Reasons
 pub mod Explained

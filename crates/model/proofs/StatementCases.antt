@@ -14,7 +14,8 @@ use Rattle.model.specs.Book.{second-of}
 use Rattle.model.specs.Register.{generation-at}
 use Rattle.model.specs.Dump.{Dumped, Holding, Restoring, word-bytes, tried, restore-class}
 use Rattle.model.specs.Calls.{Manner, judged, judged-batch, taken, taken-batch, Ticket, ContainsHash, Begin, Sweep, DumpTo, Resume, Floor, Pending, SweptBucket}
-use Rattle.model.specs.Calls.{Asking, Explain, ViewRegister, Call, Open, On, Expire, HeldBy, ClassTotals, ViewDeliverer, only-reads, register-at, held-in}
+use Rattle.model.specs.Calls.{Asking, Explain, Seeking, StampFor, ViewRegister, Call, Open, On, Expire, HeldBy, ClassTotals, ViewDeliverer}
+use Rattle.model.specs.Calls.{only-reads, register-at, held-in}
 use Rattle.model.specs.View.{answered, left-by, words-after}
 use Rattle.model.specs.Once.{Answered, moments}
 use Rattle.model.specs.SameAnswers.{served, answers-from}
@@ -24,9 +25,9 @@ use Rattle.model.specs.Floors.{forgotten-among, compute-floors}
 use Rattle.model.proofs.NotVacuous.{compute-all, settings, words, given, open-at, opened-words, ask, three-more, nothing-proven}
 
 -- ---- the calls that only read (specs/ReadersLeave), on any register, of any numbers and any output. These do: `contains_hash`, dump, floor,
--- pending, swept, held, totals, the two views and explain. One of them goes through; a sweep does not only read
-abbrev readers : (r n m : ℕ) → List ℕ → Asking → List Call
-readers r n m out a =
+-- pending, swept, held, totals, the two views, explain and `stamp_for`. One of them goes through; a sweep does not only read
+abbrev readers : (r n m : ℕ) → List ℕ → Asking → Seeking → List Call
+readers r n m out a q =
     On r (ContainsHash n)
     ∷ On r (DumpTo out)
     ∷ On r Floor
@@ -37,11 +38,12 @@ readers r n m out a =
     ∷ On r (ViewRegister out)
     ∷ ViewDeliverer n m out
     ∷ On r (Explain a)
+    ∷ On r (StampFor q)
     ∷ []
 
-pub they-read : (r n m : ℕ) (out : List ℕ) (a : Asking) → map only-reads (readers r n m out a) ≡ replicate 10 true
+pub they-read : (r n m : ℕ) (out : List ℕ) (a : Asking) (q : Seeking) → map only-reads (readers r n m out a q) ≡ replicate 11 true
 unfolding only-reads
-they-read r n m out a = refl
+they-read r n m out a q = refl
 
 pub reads : (answered opened-words (given (On 0 Pending)) ≡ No) × (only-reads (On 0 (Sweep 7)) ≡ false)
 unfolding compute-all

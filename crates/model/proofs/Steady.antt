@@ -156,14 +156,14 @@ span-times : (x d : ℕ) → 0 < d → x ≤ x * d
 span-times x d pos = let m = mul-le-mul-left {m = 1} {n = d} x pos in omega (arith, m)
 
 -- ---- rounding up
-ceil-least : (x d q : ℕ) → 0 < d → x ≤ q * d → ceil x d ≤ q
+pub ceil-least : (x d q : ℕ) → 0 < d → x ≤ q * d → ceil x d ≤ q
 unfolding ceil
 ceil-least x d q pos h =
     let m : x + (d - 1) < (q + 1) * d = omega (arith, next-times q d) in
     let l : (x + (d - 1)) / d < q + 1 = div-lt-iff-lt-mul pos .1 m in
     omega arith
 
-ceil-covers : (x d : ℕ) → 0 < d → x ≤ ceil x d * d
+pub ceil-covers : (x d : ℕ) → 0 < d → x ≤ ceil x d * d
 unfolding ceil
 ceil-covers x d pos =
     let q = (x + (d - 1)) / d in

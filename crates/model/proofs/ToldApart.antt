@@ -1,7 +1,7 @@
 -- The numbers that a call gives out tell its answer (specs/ZeroIsThrough, VerdictsApart, ReasonsApart, TicketsGetVerdicts). Assumes nothing.
 use Prim.Native.Nat.{ℕ}
 use mathlib.Core.Path.{_≡_, refl, ap, sym, _∙_, subst}
-use mathlib.Core.Bool.{true, cond}
+use mathlib.Core.Bool.{true}
 use mathlib.Core.List.{[], _∷_}
 use lib.Dec.{eqb}
 use lib.ListN.{getD}
@@ -13,11 +13,12 @@ use Rattle.model.specs.declared.Reason.the-variants as Reason
 use Rattle.model.specs.declared.Verdict.{Verdict}
 use Rattle.model.specs.declared.Verdict.the-variants.{New, Duplicate, Late, Ahead, Full, Unjudged}
 use Rattle.model.specs.declared.Answer.{Answer}
-use Rattle.model.specs.declared.Answer.the-variants.{Refused, Done, Said, Yes, No, Begun, Already, Dumped, Viewed, Whole, Partly, NoFloor, FloorAt, SweptTo, Entries, Totals, Because}
+use Rattle.model.specs.declared.Answer.the-variants.{Refused, Done, Said, Yes, No, Begun, Already, Dumped, Viewed, Whole, Partly, NoFloor, FloorAt, SweptTo, Entries, Totals}
+use Rattle.model.specs.declared.Answer.the-variants.{Because, NoStamp, StampAt}
 use Rattle.runs.proofs.Cases.{by-test, no}
 use Rattle.model.specs.Settings.{settings-of}
 use Rattle.model.specs.Class.{class-number, class-at}
-use Rattle.model.specs.Codes.{verdict-number, reason-number, reason-class, answer-number, went-through}
+use Rattle.model.specs.Codes.{verdict-number, verdict-of, reason-number, reason-class, answer-number, went-through}
 use Rattle.model.specs.Calls.{step, kind, held-in, refused, reply}
 use Rattle.model.specs.ZeroIsThrough.{ZeroIsThrough}
 use Rattle.model.specs.VerdictsApart.{VerdictsApart}
@@ -28,9 +29,6 @@ use Rattle.model.proofs.Refusals.{step-through}
 use Rattle.model.proofs.Simulates.{reply-is, through-zero}
 
 -- ---- the verdict of a number
-unfoldable verdict-of : ℕ → Verdict
-verdict-of n = cond (eqb n 0) New (cond (eqb n 1) Duplicate (cond (eqb n 2) Late (cond (eqb n 3) Ahead (cond (eqb n 4) Full Unjudged))))
-
 told-by : (v : Verdict) → verdict-of (verdict-number v) ≡ v
 unfolding verdict-of verdict-number
 told-by New = refl
@@ -99,6 +97,8 @@ through-number (SweptTo b ms) t = refl
 through-number (Entries n) t = refl
 through-number (Totals e h u x) t = refl
 through-number (Because x) t = refl
+through-number NoStamp t = refl
+through-number (StampAt x) t = refl
 
 pub zero-is-through : ZeroIsThrough
 unfolding reply answer-number went-through

@@ -6,12 +6,13 @@ use mathlib.Core.Option.{Option, none, some}
 use lib.Dec.{leb, ltb, eqb}
 use lib.ListN.{length, getD, set, take, drop, replicate}
 use Rattle.model.specs.declared.Answer.{Answer}
-use Rattle.model.specs.declared.Answer.the-variants.{Refused, Done, Said, Yes, No, Begun, Already, Dumped, Viewed, Whole, Partly, NoFloor, FloorAt, SweptTo, Entries, Totals, Because}
+use Rattle.model.specs.declared.Answer.the-variants.{Refused, Done, Said, Yes, No, Begun, Already, Dumped, Viewed, Whole, Partly, NoFloor, FloorAt, SweptTo, Entries, Totals}
+use Rattle.model.specs.declared.Answer.the-variants.{Because, NoStamp, StampAt}
 use Rattle.model.specs.declared.Settings.{Settings}
 use Rattle.model.specs.Numbers.{compute-numbers}
 use Rattle.model.specs.Settings.{settings-width, settings-of, limits-width, limits-of, limits-fit, settings-fit, usable-at, words-needed, compute-settings}
 use Rattle.model.specs.Class.{class-fits, class-at, class-of, deliverer-fits, deliverer-of, three, pick, compute-class}
-use Rattle.model.specs.Codes.{flag-fits, flag-of, start-fits, start-of, compute-codes}
+use Rattle.model.specs.Codes.{flag-fits, flag-of, start-fits, start-of, verdict-fits, verdict-of, compute-codes}
 use Rattle.model.specs.Generation.{as-read, compute-generation}
 use Rattle.model.specs.Book.{Held, Book, entries-of, entries-in, units, places-of, expire, opened-book, closed-book, with-limits, compute-book}
 use Rattle.model.specs.Register.{Register, any-class, holds-any, sweep, published, started, begin, compute-register}
@@ -21,6 +22,7 @@ use Rattle.model.specs.Dump.{dump-bytes, Dump, read-dump, Restoring, res
 use Rattle.model.specs.First.{Rule, rule, first-of}
 use Rattle.model.specs.Reason.{reason, compute-reason}
 use Rattle.model.specs.RawViews.{deliverer-view, register-view, compute-raw-views}
+use Rattle.model.specs.Stamp.{stamp-for, compute-stamp}
 use Rattle.model.specs.Words.{State, front-spare, unused-width, state-form}
 
 -- ---- calls, with every number as the host passes it
@@ -35,6 +37,19 @@ pub record Asking : Type 0 where
   pub flag : ℕ
   pub kind : ℕ
   pub number : ℕ
+
+-- a ticket without its stamp, and the number of the verdict that is wanted
+pub record Seeking : Type 0 where
+  pub fp : ℕ
+  pub ms : ℕ
+  pub flag : ℕ
+  pub kind : ℕ
+  pub number : ℕ
+  pub wanted : ℕ
+
+-- the ticket with a stamp
+abbrev pub asking-at : ℕ → Seeking → Asking
+asking-at x q = record { fp = q .fp; stamp = x; ms = q .ms; flag = q .flag; kind = q .kind; number = q .number }
 
 -- on one register
 pub data Deed : Type 0 where
@@ -52,6 +67,7 @@ pub data Deed : Type 0 where
   ViewRegister : List ℕ → Deed
   -- asked like a take
   Explain : Asking → Deed
+  StampFor : Seeking → Deed
 
 pub data Call : Type 0 where
   -- the limits, and for each of four registers a start's code and floor
@@ -140,6 +156,13 @@ yes-no false = No
 abbrev pub floor-answer : Option ℕ → Answer
 floor-answer none = NoFloor
 floor-answer (some f) = FloorAt f
+
+abbrev pub sought : Settings → ℕ → Seeking → State → Option ℕ
+sought s r q t = stamp-for (usable-at s r) (s .shares) (register-at r t) (t .book) (ask-of (asking-at 0 q)) (verdict-of (q .wanted))
+
+abbrev pub stamp-answer : Option ℕ → Answer
+stamp-answer none = NoStamp
+stamp-answer (some x) = StampAt x
 
 -- "the least of all published sweeps and the reading"
 unfoldable pub least-published : Settings → ℕ → List Register → ℕ → ℕ
@@ -316,6 +339,7 @@ act SweptBucket = looks true (λ s r t. SweptTo (register-at r t .swept) (publis
 act (ViewRegister out) =
     shows true (λ reg. view-refusals out (register-view reg)) out register-view (λ s r t. Viewed (length (register-view (register-at r t))))
 act (Explain a) = looks (asking-fits a) (λ s r t. Because (reason (usable-at s r) (s .shares) (register-at r t) (t .book) (ask-of a)))
+act (StampFor q) = looks (asking-fits (asking-at 0 q) && verdict-fits (q .wanted)) (λ s r t. stamp-answer (sought s r q t))
 
 unfoldable pub deed-fits : Deed → Bool
 unfolding act
@@ -505,5 +529,5 @@ compute-calls = 0
 
 -- the rules of all files
 unfoldable pub compute-rules : ℕ
-unfolding compute-numbers compute-settings compute-class compute-generation compute-book compute-register compute-judge compute-dump compute-codes compute-raw-views compute-reason compute-calls
+unfolding compute-numbers compute-settings compute-class compute-generation compute-book compute-register compute-judge compute-dump compute-codes compute-raw-views compute-reason compute-stamp compute-calls
 compute-rules = 0

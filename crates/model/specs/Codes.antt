@@ -12,7 +12,8 @@ use Rattle.model.specs.declared.Start.the-variants.{Empty, Fallback, At}
 use Rattle.model.specs.declared.Draw.{Draw}
 use Rattle.model.specs.declared.Draw.the-variants.{Granted, Closed, OwnShare, ClassLimit, EqualPart, TwiceLimit, Places, Pairs}
 use Rattle.model.specs.declared.Answer.{Answer}
-use Rattle.model.specs.declared.Answer.the-variants.{Refused, Done, Said, Yes, No, Begun, Already, Dumped, Viewed, Whole, Partly, NoFloor, FloorAt, SweptTo, Entries, Totals, Because}
+use Rattle.model.specs.declared.Answer.the-variants.{Refused, Done, Said, Yes, No, Begun, Already, Dumped, Viewed, Whole, Partly, NoFloor, FloorAt, SweptTo, Entries, Totals}
+use Rattle.model.specs.declared.Answer.the-variants.{Because, NoStamp, StampAt}
 use Rattle.model.specs.Class.{class-number}
 
 -- ---- codes that a call brings
@@ -38,6 +39,17 @@ verdict-number Late = 2
 verdict-number Ahead = 3
 verdict-number Full = 4
 verdict-number Unjudged = 5
+
+abbrev pub same-verdict : Verdict → Verdict → Bool
+same-verdict v w = eqb (verdict-number v) (verdict-number w)
+
+-- a verdict that is wanted, by its number
+abbrev pub verdict-fits : ℕ → Bool
+verdict-fits n = leb n 5
+
+unfoldable pub verdict-of : ℕ → Verdict
+verdict-of n =
+    cond (eqb n 0) New (cond (eqb n 1) Duplicate (cond (eqb n 2) Late (cond (eqb n 3) Ahead (cond (eqb n 4) Full Unjudged))))
 
 -- a reason: its number in the order in which the rules are tried, 0 for accepted; the class that holds the ticket, 0 for any other rule;
 -- and the verdict that take gives by it (request Q-5)
@@ -108,7 +120,7 @@ abbrev pub with-values : List ℕ → Outgoing
 with-values vs = record { number = 0; values = vs; through = true }
 
 -- a verdict's number; 1 for yes and for begun, 0 for no and for already; 1 for whole and 0 for partly, with the bytes read; whether
--- there is a floor, and the floor; a rule's number, its class and take's verdict
+-- there is a floor, and the floor; a rule's number, its class and take's verdict; whether there is a stamp, and the stamp
 unfoldable pub outgoing : Answer → Outgoing
 outgoing (Refused n) = record { number = n; values = []; through = false }
 outgoing Done = with-values []
@@ -127,6 +139,8 @@ outgoing (SweptTo b ms) = with-values (b ∷ ms ∷ [])
 outgoing (Entries n) = with-values (n ∷ [])
 outgoing (Totals e h u x) = with-values (e ∷ h ∷ u ∷ x ∷ [])
 outgoing (Because x) = with-values (reason-number x ∷ reason-class x ∷ verdict-number (reason-verdict x) ∷ [])
+outgoing NoStamp = with-values (0 ∷ 0 ∷ [])
+outgoing (StampAt x) = with-values (1 ∷ x ∷ [])
 
 unfoldable pub answer-number : Answer → ℕ
 unfolding outgoing
@@ -153,5 +167,5 @@ draw-number Pairs = 7
 
 -- the rules of this file, for a theorem that computes
 unfoldable pub compute-codes : ℕ
-unfolding start-of verdict-number reason-number reason-class reason-verdict outgoing answer-number answer-values went-through draw-number
+unfolding start-of verdict-number verdict-of reason-number reason-class reason-verdict outgoing answer-number answer-values went-through draw-number
 compute-codes = 0

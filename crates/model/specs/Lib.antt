@@ -16,6 +16,7 @@ pub mod Codes
 pub mod First
 pub mod Reason
 pub mod RawViews
+pub mod Stamp
 pub mod Calls
 pub mod View
 pub mod Refusals
@@ -55,3 +56,4 @@ pub mod ReasonsApart
 pub mod TicketsGetVerdicts
 pub mod Octets
 pub mod Explained
+pub mod Smallest

@@ -107,6 +107,9 @@ pub enum Answer {
     Totals(u64, u64, u64, u64),
     // The rule that gives a take's verdict.
     Because(Reason),
+    // The smallest stamp with a wanted verdict, if any stamp has it.
+    NoStamp,
+    StampAt(u64),
 }
 
 // Clock milliseconds.

@@ -5,3 +5,4 @@ pub mod SteadyCases
 pub mod PartlyCases
 pub mod ViewCases
 pub mod ReasonCases
+pub mod SmallestCases

@@ -1,15 +1,18 @@
 -- Laws on numbers behind the leaf functions: caps, rounding up, and windows judged by differences.
-use Prim.Native.Nat.{ℕ, suc, _+_, _-_, _*_, _/_, _%_, _<_, _≤_}
-use native.Mathlib.Nat.{le-div-iff-mul-le, div-lt-iff-lt-mul, div-zero, div-add-mod', mul-add-div-right, div-eq-of-lt, mod-lt, mul-le-mul, mul-le-mul-left, suc-mul}
+use Prim.Native.Nat.{ℕ, suc, _+_, _-_, _*_, _/_, _%_, _<_, _≤_, min}
+use native.Mathlib.Nat.{le-div-iff-mul-le, div-lt-iff-lt-mul, div-zero, div-add-mod', mul-add-div-right, div-eq-of-lt, mod-lt, mul-le-mul, mul-le-mul-left, mul-zero, suc-mul}
 use native.Mathlib.Omega.{arith}
-use mathlib.Core.Path.{_≡_, sym, _∙_, ap}
+use mathlib.Core.Path.{_≡_, refl, sym, _∙_, ap}
 use mathlib.Core.Bool.{true, false, _&&_}
 use lib.Dec.{leb, ltb}
 use borrow.Author.Tests.{leb-true, leb-false, le-leb, ltb-true, ltb-false, lt-ltb, le-ltb}
 use Rattle.runs.proofs.Cases.{by-test, both-true}
+use Rattle.model.specs.declared.Usable.{Usable}
 use Rattle.model.specs.declared.Window.{Window}
 use Rattle.model.specs.Numbers.{top64, cap64, ceil}
+use Rattle.model.specs.Settings.{retained}
 use Rattle.model.specs.Judge.{in-window, front-past}
+use Rattle.model.specs.Stamp.{first-stamp}
 
 -- ---- capped
 pub uncapped : (n : ℕ) → n ≤ top64 → n ≡ cap64 n
@@ -37,6 +40,25 @@ module _ (a b : ℕ) (h : (b ≡ 0) → ⊥) where
 
   pub product-past : top64 / b < a → top64 ≤ a * b
   product-past l = let k = div-lt-iff-lt-mul positive .0 l in omega arith
+
+-- ---- the first stamp of a bucket, which is one for all buckets from 2^64 − 1 on
+end-capped : (b w : ℕ) → cap64 (cap64 ((cap64 b - 1) * w) + 1) ≡ cap64 (cap64 ((b - 1) * w) + 1)
+unfolding cap64
+end-capped b w =
+    by-test (leb b top64) (λ e. let h = leb-true b top64 e in let k : min b top64 ≡ b = omega arith in rw k)
+    (λ e.
+    let h = leb-false b top64 e in
+    let k : min b top64 ≡ top64 = omega arith in
+    by-test (leb w 0) (λ d. let z : w ≡ 0 = let l = leb-true w 0 d in omega arith in rw (k, z, mul-zero) refl)
+    (λ d.
+    let some : 1 ≤ w = leb-false w 0 d in
+    let far = mul-le-mul-left (b - 1) some in
+    rw k (omega (arith, far))))
+
+pub first-by : (u : Usable) (b sum before end next back r : ℕ) → sum ≡ cap64 b → before ≡ sum - 1 → end ≡ cap64 (before * u .bucket) → next ≡ cap64 (end + 1)
+    → back ≡ retained u → r ≡ next - back → r ≡ first-stamp u b
+unfolding first-stamp
+first-by u b sum before end next back r s p e n k i = i ∙ rw (n, k, e, p, s, end-capped b (u .bucket))
 
 -- ---- rounded up
 pub ceil-by-zero : (n d : ℕ) → d ≡ 0 → 0 ≡ ceil n d

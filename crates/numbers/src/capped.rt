@@ -1,6 +1,7 @@
-// Sums and products that stop at the largest 64-bit number, and division that rounds up: total for all arguments.
+// Sums and products that stop at the largest 64-bit number, differences that stop at 0, and division that rounds up: total for all
+// arguments.
 ghost use mathlib.Core.Path.{_≡_};
-ghost use Prim.Native.Nat.{_+_, _*_, max, min};
+ghost use Prim.Native.Nat.{_+_, _-_, _*_, max, min};
 ghost use Rattle.model.specs.Numbers.{cap64, cap32, ceil};
 
 const TOP64: u64 = 18446744073709551615;
@@ -14,6 +15,15 @@ pub fn capped_add(a: u64, b: u64) -> u64
         return a + b;
     }
     TOP64
+}
+
+pub fn capped_sub(a: u64, b: u64) -> u64
+    ensures { λ r. ⌜ r ≡ a - b ⌝ }
+{
+    if a <= b {
+        return 0;
+    }
+    a - b
 }
 
 pub fn capped_mul(a: u64, b: u64) -> u64

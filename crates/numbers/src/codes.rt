@@ -6,7 +6,7 @@ use model::Start;
 use model::Verdict;
 ghost use mathlib.Core.Path.{_≡_};
 ghost use Rattle.model.specs.Class.{class-number as number-of-class, class-fits as listed-class, class-at as class-with, class-of as class-for, deliverer-fits as listed-deliverer, deliverer-of as deliverer-with};
-ghost use Rattle.model.specs.Codes.{flag-fits as listed-flag, start-fits as listed-start, start-of as start-with, verdict-number as number-of-verdict, reason-number as number-of-reason, reason-class as class-of-reason, reason-verdict as verdict-of-reason};
+ghost use Rattle.model.specs.Codes.{flag-fits as listed-flag, start-fits as listed-start, start-of as start-with, verdict-number as number-of-verdict, verdict-fits as listed-verdict, verdict-of as verdict-with, same-verdict as one-verdict, reason-number as number-of-reason, reason-class as class-of-reason, reason-verdict as verdict-of-reason};
 
 // The kinds of deliverers.
 pub const FEEDER: u64 = 0;
@@ -102,6 +102,33 @@ pub fn start_of(code: u64, floor: u64) -> Start
     Start::At(floor)
 }
 
+pub fn verdict_fits(number: u64) -> bool
+    ensures { λ r. ⌜ r ≡ listed-verdict number ⌝ }
+{
+    number <= 5
+}
+
+pub fn verdict_of(number: u64) -> Verdict
+    ensures { λ r. ⌜ r ≡ verdict-with number ⌝ }
+{
+    if number == 0 {
+        return Verdict::New;
+    }
+    if number == 1 {
+        return Verdict::Duplicate;
+    }
+    if number == 2 {
+        return Verdict::Late;
+    }
+    if number == 3 {
+        return Verdict::Ahead;
+    }
+    if number == 4 {
+        return Verdict::Full;
+    }
+    Verdict::Unjudged
+}
+
 pub fn verdict_number(verdict: Verdict) -> u64
     ensures { λ r. ⌜ r ≡ number-of-verdict verdict ⌝ }
 {
@@ -113,6 +140,12 @@ pub fn verdict_number(verdict: Verdict) -> u64
         Verdict::Full => 4,
         Verdict::Unjudged => 5,
     }
+}
+
+pub fn same_verdict(a: Verdict, b: Verdict) -> bool
+    ensures { λ r. ⌜ r ≡ one-verdict a b ⌝ }
+{
+    verdict_number(a) == verdict_number(b)
 }
 
 pub fn reason_number(reason: Reason) -> u64

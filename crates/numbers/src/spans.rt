@@ -7,11 +7,13 @@ use model::Second;
 use model::Usable;
 use model::Window;
 ghost use mathlib.Core.Path.{_≡_};
+ghost use Prim.Native.Nat.{_+_};
 ghost use Rattle.model.specs.Settings.{retained as retained-of, ahead as ahead-of, ring-of as ring-for};
 ghost use Rattle.model.specs.Generation.{as-read as print-read};
 ghost use Rattle.model.specs.Book.{second-of as second-for};
 ghost use Rattle.model.specs.Register.{through-of as through-for, published as published-for};
 ghost use Rattle.model.specs.Judge.{bucket-of as bucket-for, window-for as window-of, in-window as holds-in, front-past as past-front};
+ghost use Rattle.model.specs.Stamp.{first-stamp as first-stamp-of};
 
 // The larger behind span.
 pub fn retained(u: Usable) -> u64
@@ -40,6 +42,15 @@ pub fn bucket_of(u: Usable, stamp: u64) -> Bucket
     ensures { λ r. ⌜ r .0 ≡ bucket-for u stamp ⌝ }
 {
     Bucket(capped::ceil_div(capped::capped_add(stamp, retained(u)), u.bucket))
+}
+
+// The smallest stamp of the bucket that comes `more` after this one, or of a later bucket, if any stamp is of such a one.
+pub fn first_stamp(u: Usable, bucket: Bucket, more: u64) -> u64
+    ensures { λ r. ⌜ r ≡ first-stamp-of u (bucket .0 + more) ⌝ }
+{
+    let before = capped::capped_sub(capped::capped_add(bucket.0, more), 1);
+    let end = capped::capped_mul(before, u.bucket);
+    capped::capped_sub(capped::capped_add(end, 1), retained(u))
 }
 
 // The first bucket that a reading has not passed.

@@ -11,7 +11,7 @@ use Rattle.runs.proofs.Turns.{lies-at, part-is, part-reads, part-turns, stays}
 use Rattle.model.specs.declared.Class.{Class}
 use Rattle.model.specs.declared.Room.{Room}
 use Rattle.model.specs.declared.Usable.{Usable}
-use Rattle.model.specs.Settings.{usable-fit}
+use Rattle.model.specs.Settings.{ring-of, usable-fit}
 use Rattle.model.specs.Class.{class-number, pick}
 use Rattle.model.specs.Register.{Ring, Register, in-ring}
 use Rattle.model.specs.RegisterWords.{ring-form, register-form}
@@ -44,6 +44,10 @@ position-asks u n l fit = rw (l .ring) (ring-positive u, usable-few u fit .ring)
 module _ (u : Usable) (c : Class) (p : RingExtent) (l : RingAt u c p) where
   pub ring-position : (n : Rings) (b i : ℕ) → RingsOf u n → PositionOf b (n .ring) i → PositionOf b (p .ring) i
   ring-position n b i sizes q = rw (l .ring ∙ sym (sizes .ring)) q
+
+  -- a position of the register's rings
+  pub ring-below : (i : ℕ) → i < ring-of u → i < p .ring
+  ring-below i h = rw (l .ring) h
 
   -- what a function on the ring asks
   pub ring-asks : (ws : List ℕ) → RegisterWords u ws → RingWords (p .slots) (p .ring) (midOf (p .start) (p .end - p .start) ws)

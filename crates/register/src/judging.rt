@@ -56,7 +56,7 @@ pub fn judge(part: &mut [u64], u: Usable, ask: Ask) -> Verdict
 }
 
 // A Late ticket past the window's front is Ahead.
-fn ahead_for(past: bool, verdict: Verdict) -> Verdict
+pub fn ahead_for(past: bool, verdict: Verdict) -> Verdict
     ensures { λ r. ⌜ r ≡ turned-ahead past verdict ⌝ }
 {
     match verdict {

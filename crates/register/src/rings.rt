@@ -9,13 +9,25 @@ use model::Usable;
 use numbers::spans;
 ghost use Prim.Native.Nat.{_<_};
 ghost use Rattle.runs.specs.Turns.{silent};
+ghost use Rattle.model.specs.Settings.{ring-of};
 ghost use Rattle.model.specs.Class.{pick};
 ghost use Rattle.model.specs.Generation.{as-read as read-as};
 ghost use Rattle.model.specs.Register.{holds, holds-any, any-class, strike as struck};
 ghost use Rattle.model.specs.Judge.{make-room};
-ghost use Rattle.ring.specs.Ring.{PositionOf, found-at};
+ghost use Rattle.ring.specs.Ring.{PositionOf, bucket-in, found-at};
 ghost use Rattle.register.specs.Rules.{swept-class};
 ghost use Rattle.register.specs.Words.{RegisterWords, RegisterReads, RegisterTurns, RingsOf};
+
+// The bucket that a position of a class's ring has; where it holds nothing any number.
+pub fn bucket_at(part: &[u64], u: Usable, class: Class, position: usize) -> Bucket
+    requires { ⌜ RegisterWords u (now part) × (position < ring-of u) ⌝ }
+    ensures { λ r. ⌜ RegisterReads u (λ reg. bucket-in position (pick class (reg .rings))) (now (part .entry)) (r .0) ⌝ }
+{
+    let at = extents::ring_extent(u, class);
+    let a = at.start;
+    let e = at.end;
+    ring::bucket_at(&part[a..e], at.slots, at.ring, position)
+}
 
 // Whether a class's ring holds a fingerprint in a bucket, whose position is `position`.
 fn holds_in(

@@ -111,6 +111,8 @@ fn put_answer(answer: Answer, text: &mut [u8; 4096]) -> usize
             units,
             expired,
         ),
+        Answer::NoStamp => put_two(text, 0, 0),
+        Answer::StampAt(stamp) => put_two(text, 1, stamp),
         Answer::Because(reason) => put_three(
             text,
             codes::reason_number(reason),

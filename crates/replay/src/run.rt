@@ -51,6 +51,8 @@ const VIEW_DELIVERER: u64 = 21;
 
 const EXPLAIN: u64 = 22;
 
+const STAMP_FOR: u64 = 23;
+
 const LEND: u64 = 101;
 
 const SETTINGS: u64 = 102;
@@ -214,6 +216,7 @@ fn call(
                 strikes::view_deliverer(s, words, a[0], a[1], &mut view[0..n])
             }
             EXPLAIN => strikes::explain(s, words, a[0], a[1], a[2], a[3], a[4], a[5], a[6]),
+            STAMP_FOR => strikes::stamp_for(s, words, a[0], a[1], a[2], a[3], a[4], a[5], a[6]),
             _ => return Said::Unread,
         },
     )

@@ -1,5 +1,5 @@
 -- Fingerprints looked for in a ring, and the room that it has for one.
-use Prim.Native.Nat.{ℕ, _+_, _%_, _<_, _≤_}
+use Prim.Native.Nat.{ℕ, _+_, _-_, _%_, _<_, _≤_}
 use native.Mathlib.Omega.{arith}
 use native.Mathlib.Numerals.{add-one}
 use mathlib.Core.Path.{_≡_, refl, sym, _∙_}
@@ -7,13 +7,25 @@ use mathlib.Core.Bool.{Bool, false, _||_, or-assoc, or-false}
 use mathlib.Core.List.{List}
 use lib.ListN.{getD, drop, drop-of-length-le}
 use lib.Seq.{drop-cons}
+use borrow.Rule.Slice.PartMut.{midOf}
 use Rattle.runs.proofs.Turns.{reads-as}
 use Rattle.model.specs.declared.Room.{Room}
+use Rattle.model.specs.Widths.{generation-width}
 use Rattle.model.specs.Generation.{empty, among}
 use Rattle.model.specs.Register.{Ring, generation-at, holds, holds-any}
 use Rattle.model.specs.Judge.{make-room}
+use Rattle.generation.specs.declared.Generation.{Generation as Leading}
 use Rattle.generation.specs.Rules.{holds-in, room-in}
-use Rattle.ring.specs.Ring.{places, RingReads}
+use Rattle.generation.specs.Words.{Leads}
+use Rattle.ring.specs.Ring.{places, RingReads, StartsAt, bucket-in}
+use Rattle.ring.proofs.Positions.{place-is}
+
+-- ---- the bucket that a position has
+pub bucket-told : (S n at : ℕ) (ws : List ℕ) (a e : ℕ) (g : Leading) → at < n → StartsAt S n at a → e ≡ a + generation-width S → Leads (midOf a (e - a) ws) g
+    → RingReads S n (bucket-in at) ws (g .bucket)
+bucket-told S n at ws a e g h start he leads = record {
+  says = λ ring ok is. leads .bucket ∙ rw (place-is S n at h a e start he ws ring ok is .1);
+}
 
 -- ---- in a bucket
 pub holds-reads : (S n b fp : ℕ) {ws : List ℕ} {r : Bool} → RingReads S n (λ ring. holds-in b fp (generation-at ring b)) ws r

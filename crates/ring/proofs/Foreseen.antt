@@ -29,6 +29,7 @@ use Rattle.generation.specs.Words.{Leads}
 use Rattle.ring.specs.Ring.{places, RingReads, PositionOf, StartsAt}
 use Rattle.ring.specs.Sweep.{swept-ring, swept-says, newest-of, Visits, goes-at, holds-after, room-after}
 use Rattle.ring.proofs.Positions.{place-is}
+use Rattle.ring.proofs.Finding.{bucket-told}
 use Rattle.ring.proofs.Sweeping.{went-raised, went-nothing}
 
 -- ---- the newest that would go: the loop of every ring stands on the way of its peeks
@@ -112,7 +113,7 @@ module _ (S n at : ℕ) (ws : List ℕ) (a e : ℕ) (g : Leading) (h : at < n) (
   leads-held ring ok is = leads .held ∙ rw (place-is S n at h a e start he ws ring ok is .1)
 
   leads-bucket : (ring : Ring) → places S n .Ok ring → ws ≡ places S n .enc ring → g .bucket ≡ getD ring at empty .bucket
-  leads-bucket ring ok is = leads .bucket ∙ rw (place-is S n at h a e start he ws ring ok is .1)
+  leads-bucket = bucket-told S n at ws a e g h start he leads .says
 
   within : (ring : Ring) → places S n .Ok ring → at < length ring
   within ring ok = rw (ok .0) h

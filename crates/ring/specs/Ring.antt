@@ -2,7 +2,7 @@
 use Prim.Native.Nat.{ℕ, _+_, _*_, _%_, _≤_, _<_}
 use mathlib.Core.Path.{_≡_}
 use mathlib.Core.List.{List}
-use lib.ListN.{length}
+use lib.ListN.{length, getD}
 use Rattle.runs.specs.Form.{Form}
 use Rattle.runs.specs.Combine.{many}
 use Rattle.runs.specs.Turns.{Is, Reads, Turns}
@@ -11,7 +11,7 @@ use Rattle.model.specs.declared.Room.the-variants.{At}
 use Rattle.model.specs.Widths.{generation-width}
 use Rattle.model.specs.GenerationWords.{generation-place}
 use Rattle.model.specs.Register.{Ring, generation-at, with-generation}
-use Rattle.model.specs.Generation.{insert}
+use Rattle.model.specs.Generation.{empty, insert}
 use Rattle.generation.specs.declared.Dropped.{Dropped}
 use Rattle.generation.specs.Rules.{drop-in-says}
 
@@ -47,6 +47,10 @@ pub record PositionOf (b n r : ℕ) : Type 0 where
 pub record StartsAt (S n i r : ℕ) : Type 0 where
   pub start : r ≡ i * generation-width S
   pub within : r + generation-width S ≤ n * generation-width S
+
+-- the bucket of the generation at position i
+abbrev pub bucket-in : ℕ → Ring → ℕ
+bucket-in i ring = getD ring i empty .bucket
 
 -- the room that was found
 abbrev pub found-at : ℕ → Room

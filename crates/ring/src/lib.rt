@@ -18,7 +18,7 @@ ghost use Rattle.model.specs.GenerationWords.{generation-place};
 ghost use Rattle.model.specs.Register.{holds, holds-any};
 ghost use Rattle.model.specs.Judge.{make-room};
 ghost use Rattle.model.specs.Dump.{drop-bucket};
-ghost use Rattle.ring.specs.Ring.{Sized, RingWords, RingReads, RingTurns, PositionOf, StartsAt, found-at, inserted-in, drop-bucket-says};
+ghost use Rattle.ring.specs.Ring.{Sized, RingWords, RingReads, RingTurns, PositionOf, StartsAt, bucket-in, found-at, inserted-in, drop-bucket-says};
 ghost use Rattle.ring.specs.Sweep.{swept-ring, swept-says, newest-of};
 
 // The position of a bucket.
@@ -35,6 +35,17 @@ fn start_of(i: usize, slots: usize, ring: usize) -> usize
     ensures { λ r. ⌜ StartsAt slots ring i r ⌝ }
 {
     i * (slots + Generation::HEAD)
+}
+
+// The bucket that a position has; where it holds nothing any number, which no rule reads.
+pub fn bucket_at(words: &[u64], slots: usize, ring: usize, at: usize) -> Bucket
+    requires { ⌜ RingWords slots ring (now words) × (at < ring) ⌝ }
+    ensures { λ r. ⌜ RingReads slots ring (bucket-in at) (now (words .entry)) (r .0) ⌝ }
+{
+    let a = start_of(at, slots, ring);
+    let e = a + (slots + Generation::HEAD);
+    let head = Generation::of(&words[a..e]);
+    Bucket(head.bucket)
 }
 
 // Whether the ring holds a fingerprint in a bucket, whose position is `at`.

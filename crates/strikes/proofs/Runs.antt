@@ -1,35 +1,39 @@
 -- Each call on all needed words or on the front that nothing refuses: what is told, from what the function on those words does.
 use Prim.Native.Nat.{ℕ}
 use mathlib.Core.Path.{_≡_, refl, sym, _∙_}
-use mathlib.Core.Bool.{Bool, true}
+use mathlib.Core.Bool.{Bool, true, _&&_}
 use mathlib.Core.List.{List, _++_}
 use lib.Dec.{eqb}
 use lib.ListN.{length, take, drop}
 use borrow.Author.Tests.{eqb-true}
 use Rattle.runs.proofs.Cases.{both-true}
 use Rattle.runs.specs.Turns.{Turns, silent}
-use Rattle.model.specs.declared.Answer.the-variants.{Done, Said, Because}
+use Rattle.model.specs.declared.Answer.{Answer}
+use Rattle.model.specs.declared.Answer.the-variants.{Refused, Done, Said, Because}
 use Rattle.model.specs.declared.Limits.{Limits}
 use Rattle.model.specs.declared.Reason.{Reason}
 use Rattle.model.specs.declared.Settings.{Settings}
 use Rattle.model.specs.declared.Verdict.{Verdict}
 use Rattle.model.specs.Settings.{settings-of, limits-width, limits-of}
+use Rattle.model.specs.Codes.{verdict-fits, verdict-of}
 use Rattle.model.specs.Book.{closed-book, with-limits}
 use Rattle.model.specs.Judge.{Ask}
 use Rattle.model.specs.Words.{State, FrontOk, encode-front}
-use Rattle.model.specs.Calls.{Asking, Manner, taken, taken-batch, On, Ticket, Explain, Expire, SetLimits, Close, deed-fits, codes-fit, limits-words-fit}
+use Rattle.model.specs.Calls.{Asking, Seeking, asking-at, stamp-answer, Manner, taken, taken-batch, On, Ticket, Explain, StampFor, Expire, SetLimits, Close, deed-fits, codes-fit, limits-words-fit}
 use Rattle.model.specs.Calls.{deed-refusals, first-met, done-on, ask-of, asked, after-taken, step, reply, is-open, no-such-register, own-refusals}
 use Rattle.book.specs.FrontRules.{limited, shut}
 use Rattle.register.specs.Rules.{asked-by}
 use Rattle.taking.specs.Rules.{take-says, take-batch-says}
 use Rattle.taking.specs.Reasons.{reason-at}
 use Rattle.taking.specs.Words.{StateReads, StateTurns}
+use Rattle.seeking.specs.declared.tries.Best.{Best}
+use Rattle.seeking.specs.Seeking.{best-of, sought-by}
 use Rattle.vet.specs.declared.Entry.{Entry}
 use Rattle.strikes.specs.declared.Ticket.{Ticket as Handed}
 use Rattle.strikes.specs.Calls.{Told}
 use Rattle.strikes.specs.Entries.{ByBook, ByRegister, Asks}
 use Rattle.strikes.proofs.Admitting.{first-own, OnBook}
-use Rattle.strikes.proofs.OnWhole.{run-of, put-run, codes-there, told-whole, told-seen, told-run, told-front}
+use Rattle.strikes.proofs.OnWhole.{run-of, put-run, codes-there, read-run-refused, told-whole, told-seen, told-run, told-front}
 
 -- ---- a ticket that is taken
 -- what is told in a manner in which the verdict is out
@@ -60,6 +64,23 @@ pub was-explained : (st ws : List ℕ) (r : ℕ) (e : Entry) (s : Settings) (a :
 unfolding deed-fits deed-refusals first-own first-met done-on reason-at
 was-explained st ws r e s a t v by z read asks reads =
     told-seen by z (Explain a) (asks .listed) read (λ x. refl) Because (λ x. rw (asks .ask)) reads
+
+-- ---- the smallest stamp with a wanted verdict
+module _ (st ws : List ℕ) (r : ℕ) (e : Entry) (q : Seeking) (t : Handed) (listed : Bool) (by : ByRegister st ws (t .listed && listed) r e)
+    (asks : Asks (asking-at 0 q) t) (wanted : listed ≡ verdict-fits (q .wanted)) where
+  seek-fits : (t .listed && listed) ≡ deed-fits (StampFor q)
+  unfolding deed-fits
+  seek-fits = rw (asks .listed, wanted) refl
+
+  pub not-sought : (e .refusal ≡ 0 → ⊥) → Refused (e .refusal) ≡ reply st ws (On r (StampFor q))
+  not-sought h = read-run-refused by h (StampFor q) seek-fits
+
+  pub was-sought : e .refusal ≡ 0 → (s : Settings) → s ≡ settings-of st → (v : Verdict) → v ≡ verdict-of (q .wanted) → (best : Best)
+      → StateReads s (sought-by s r (asked-by (t .ask)) v) (run-of e ws) (best-of best) → (a : Answer) → a ≡ stamp-answer (best-of best)
+      → a ≡ reply st ws (On r (StampFor q))
+  unfolding deed-refusals first-own first-met done-on sought-by
+  was-sought z s read v is best reads a told =
+      told ∙ told-seen by z (StampFor q) seek-fits read (λ x. refl) stamp-answer (λ x. rw (asks .ask, is)) reads
 
 -- ---- calls on the book
 pub closes : OnBook Close

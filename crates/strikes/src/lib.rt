@@ -11,14 +11,16 @@ use numbers::codes;
 use numbers::layout;
 use numbers::starts;
 use register::Ask;
+use seeking::Best;
 use vet::Entry;
 ghost use mathlib.Core.Path.{_≡_};
 ghost use Prim.Native.Nat.{_*_, _≤_};
 ghost use lib.ListN.{length};
-ghost use Rattle.model.specs.Calls.{judged, judged-batch, taken, taken-batch, On, Open, Close, Expire, SetLimits, HeldBy, ClassTotals, Begin, Sweep, ContainsHash, DumpTo, Restore, Resume, Floor, Pending, SweptBucket, ViewRegister, ViewDeliverer, yes-no, reply};
+ghost use Rattle.model.specs.Calls.{judged, judged-batch, taken, taken-batch, On, Open, Close, Expire, SetLimits, HeldBy, ClassTotals, Begin, Sweep, ContainsHash, DumpTo, Restore, Resume, Floor, Pending, SweptBucket, ViewRegister, ViewDeliverer, yes-no, stamp-answer, reply};
 ghost use Rattle.register.specs.Words.{RegisterWords};
+ghost use Rattle.seeking.specs.Seeking.{best-of};
 ghost use Rattle.strikes.specs.Admitted.{six-then-five, DumpTried};
-ghost use Rattle.strikes.specs.Calls.{asking, explaining, Told, ToldOutput, restore-answer};
+ghost use Rattle.strikes.specs.Calls.{asking, explaining, seeking, Told, ToldOutput, restore-answer};
 ghost use Rattle.strikes.specs.Entries.{ByBook, ByRegister, ByOpening, AtRegister, AtClass, Asks};
 
 // Where a call on one register finds its words: the first refusal that was met, or 0, and then the register's settings and part.
@@ -346,6 +348,42 @@ pub fn explain(
     let need = e.need;
     let s = bounds::settings_of(settings);
     Answer::Because(taking::explain(&words[0..need], s, register as usize, ticket.ask))
+}
+
+// The smallest stamp for which take_batch would give the verdict with the wanted number, or none. The words are only read.
+pub fn stamp_for(
+    settings: &[u64],
+    words: &[u64],
+    register: u64,
+    fp: u64,
+    reading: u64,
+    flag: u64,
+    kind: u64,
+    number: u64,
+    wanted: u64,
+) -> Answer
+    ensures { λ a. ⌜ a ≡ reply (now (settings .entry)) (now (words .entry)) (seeking register fp reading flag kind number wanted) ⌝ }
+{
+    let ticket = ticket_of(fp, 0, reading, flag, kind, number);
+    let listed = codes::verdict_fits(wanted);
+    let e = admit(settings, words, ticket.listed & listed, register);
+    if e.refusal != 0 {
+        return Answer::Refused(e.refusal);
+    }
+    let need = e.need;
+    let s = bounds::settings_of(settings);
+    let verdict = codes::verdict_of(wanted);
+    told_best(seeking::stamp_for(&words[0..need], s, register as usize, ticket.ask, verdict))
+}
+
+// A stamp that was found, or none.
+fn told_best(best: Best) -> Answer
+    ensures { λ a. ⌜ a ≡ stamp-answer (best-of best) ⌝ }
+{
+    if best.found {
+        return Answer::StampAt(best.stamp);
+    }
+    Answer::NoStamp
 }
 
 // Closes the share book: every draw from now on is refused.

@@ -7,7 +7,7 @@ use sent::send;
 ghost use mathlib.Core.Path.{_≡_};
 ghost use mathlib.Core.List.{[], _∷_};
 ghost use Rattle.model.specs.Calls.{judged, judged-batch, taken, taken-batch, On, Open, Expire, Close, SetLimits, HeldBy, ClassTotals, Begin, Sweep, ContainsHash, DumpTo, Restore, Resume, Floor, Pending, SweptBucket, ViewRegister, ViewDeliverer};
-ghost use Rattle.strikes.specs.Calls.{asking, explaining};
+ghost use Rattle.strikes.specs.Calls.{asking, explaining, seeking};
 ghost use Rattle.strikes_c.specs.Out.{Returned, Read, Written, needed-status, needed-out};
 
 // The words that the settings need, or 1 where they are unfit.
@@ -197,6 +197,39 @@ pub extern "C" fn strikes_explain(
     *rule = sent.first_or(*rule);
     *class = sent.second_or(*class);
     *verdict = sent.third_or(*verdict);
+    sent.status
+}
+
+// The smallest stamp for which strikes_take_batch would give the wanted verdict, or none. The words are only read.
+#[no_mangle]
+pub extern "C" fn strikes_stamp_for(
+    settings: &[u64],
+    words: &[u64],
+    register: u64,
+    fp: u64,
+    reading: u64,
+    flag: u64,
+    kind: u64,
+    number: u64,
+    wanted: u64,
+    found: &mut u64,
+    stamp: &mut u64,
+) -> u64
+    ensures { λ n. ⌜ Read (now (settings .entry)) (now (words .entry)) (seeking register fp reading flag kind number wanted) n (now (found .entry) ∷ now (stamp .entry) ∷ []) (now (found .exit) ∷ now (stamp .exit) ∷ []) ⌝ }
+{
+    let sent = send(strikes::stamp_for(
+        settings,
+        words,
+        register,
+        fp,
+        reading,
+        flag,
+        kind,
+        number,
+        wanted,
+    ));
+    *found = sent.first_or(*found);
+    *stamp = sent.second_or(*stamp);
     sent.status
 }
 

@@ -158,5 +158,7 @@ pub(crate) fn send(answer: Answer) -> Sent
         ),
         Answer::Viewed(n) => Sent::one(n),
         Answer::Because(reason) => send_reason(reason),
+        Answer::NoStamp => Sent::two(0, 0),
+        Answer::StampAt(stamp) => Sent::two(1, stamp),
     }
 }

@@ -165,8 +165,8 @@ fn serve(settings: &[u64], words: &mut [u64], call: &Call) -> Result<Answer, Ref
     })
 }
 
-/// Hands a reading call's parts to its entry point, one by one: a deliverer is two numbers there, and a length an output of so many words,
-/// which is told with what was written into it.
+/// Hands a reading call's parts to its entry point, one by one: a deliverer is two numbers there, a wanted verdict its number, and a length
+/// an output of so many words, which is told with what was written into it.
 macro_rules! hand {
     ($out:ident, $name:ident($($handed:expr),*)) => {
         raw::$name($($handed),*)
@@ -176,6 +176,9 @@ macro_rules! hand {
     };
     ($out:ident, $name:ident($($handed:expr),*) $who:ident: Who, $($left:tt)*) => {
         hand!($out, $name($($handed),*, codes($who).0, codes($who).1) $($left)*)
+    };
+    ($out:ident, $name:ident($($handed:expr),*) $wanted:ident: Wanted, $($left:tt)*) => {
+        hand!($out, $name($($handed),*, $wanted.number()) $($left)*)
     };
     ($out:ident, $name:ident($($handed:expr),*) $number:ident, $($left:tt)*) => {
         hand!($out, $name($($handed),*, $number) $($left)*)
@@ -260,6 +263,15 @@ fn reason((rule, class, verdict): (u64, u64, u64)) -> Answer {
         (Some(why), Some(said)) if why.verdict() == said => {
             Answer::Because(verdict_of(said), reason_of(why))
         }
+        _ => Answer::Broke,
+    }
+}
+
+/// Where there is none, the stamp that is told must be 0.
+fn stamp((found, stamp): (u64, u64)) -> Answer {
+    match (found, stamp) {
+        (1, stamp) => Answer::Stamp(Some(stamp)),
+        (0, 0) => Answer::Stamp(None),
         _ => Answer::Broke,
     }
 }

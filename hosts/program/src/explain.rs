@@ -47,14 +47,24 @@ impl Machine for Explaining {
     }
 }
 
-/// Why a take of the ticket answers as it does, by words with the settings that they keep.
+/// Why a take of the ticket answers as it does.
 fn explain(words: &[u64], line: &Line) -> Result<Why, Refusal> {
+    let gateway = gateway_over(words)?;
+    why(&gateway, &brought(line)?)
+}
+
+/// A gateway over words, with the settings that they keep.
+pub fn gateway_over(words: &[u64]) -> Result<Gateway, Refusal> {
     let view = words::view(words).ok_or(Refusal::Unsound)?;
-    let gateway = Gateway::over(&view.settings(), words.to_vec())?;
+    Gateway::over(&view.settings(), words.to_vec())
+}
+
+/// The ticket of a line, if its codes are listed.
+pub fn brought(line: &Line) -> Result<Brought, Refusal> {
     let (Some(who), 0..=1) = (deliverer(line.who), line.flag) else {
         return Err(Refusal::Unfit);
     };
-    let brought = Brought {
+    Ok(Brought {
         register: line.register,
         ticket: Ticket {
             fingerprint: line.fingerprint,
@@ -65,8 +75,7 @@ fn explain(words: &[u64], line: &Line) -> Result<Why, Refusal> {
             judging: line.flag == 1,
         },
         who,
-    };
-    why(&gateway, &brought)
+    })
 }
 
 /// The deliverer, if its codes are listed.

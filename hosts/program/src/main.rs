@@ -9,6 +9,7 @@
 //!     strikes save FILE < LIST  runs a list and keeps the words that it leaves, as little-endian bytes
 //!     strikes explain FILE REG FP STAMP READING FLAG WHO   prints why a take on kept words would answer as it would
 //!     strikes explain < LIST    runs a list and prints the same of each ticket in it
+//!     strikes provoke FILE REG FP READING FLAG WHO   prints the smallest stamp for each verdict on kept words, and the takes to paste
 //!     strikes meter WHO < LIST  runs a list and prints the seconds, counts and entries that it leaves to a deliverer, as `f:1`
 //!     strikes soak SEED [DAYS [PICTURE]]   half a year of a gateway's clock, or so many days, watched by a ledger
 //!
@@ -18,6 +19,7 @@ mod demo;
 mod explain;
 mod list;
 mod meter;
+mod provoke;
 mod saved;
 mod soak;
 mod view;
@@ -38,6 +40,9 @@ fn main() -> ExitCode {
         ["save", file] => saved::of_list(file),
         ["explain"] => explain::of_list(),
         ["explain", file, ref ticket @ ..] => explain::of_file(file, ticket),
+        ["provoke", file, register, fingerprint, reading, flag, who] => {
+            provoke::of_file(file, [register, fingerprint, reading, flag, who])
+        }
         ["meter", who] => meter(who),
         ["soak", seed] => soak(seed, SOAK_DAYS, SOAK_PICTURE),
         ["soak", seed, days] => soak(seed, days, SOAK_PICTURE),
@@ -79,7 +84,7 @@ fn soak(seed: &str, days: &str, file: &str) -> ExitCode {
 
 fn usage() -> ExitCode {
     eprintln!(
-        "strikes demo, {}, view < LIST, view FILE, save FILE < LIST, explain FILE REG FP STAMP READING FLAG WHO, explain < LIST, meter WHO < LIST, soak SEED [DAYS [PICTURE]]",
+        "strikes demo, {}, view < LIST, view FILE, save FILE < LIST, explain FILE REG FP STAMP READING FLAG WHO, explain < LIST, provoke FILE REG FP READING FLAG WHO, meter WHO < LIST, soak SEED [DAYS [PICTURE]]",
         calls::program::USAGE
     );
     ExitCode::from(2)

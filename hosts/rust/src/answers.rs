@@ -21,18 +21,24 @@ pub enum Verdict {
 }
 
 impl Verdict {
+    /// By their numbers in the entry points.
+    pub const ALL: [Self; 6] = [
+        Self::New,
+        Self::Duplicate,
+        Self::Late,
+        Self::Ahead,
+        Self::Full,
+        Self::Unjudged,
+    ];
+
     /// By its number in the entry points.
     pub fn of(number: u64) -> Option<Self> {
-        [
-            Self::New,
-            Self::Duplicate,
-            Self::Late,
-            Self::Ahead,
-            Self::Full,
-            Self::Unjudged,
-        ]
-        .get(usize::try_from(number).ok()?)
-        .copied()
+        Self::ALL.get(usize::try_from(number).ok()?).copied()
+    }
+
+    /// Its number in the entry points.
+    pub fn number(self) -> u64 {
+        self as u64
     }
 }
 

@@ -35,6 +35,8 @@ macro_rules! entries {
             /// Why a [`take`] with these arguments would answer as it would: the rule that decides, the class that holds the ticket
             /// where that is the rule, else 0, and the take's verdict.
             explain(settings: &[u64], words: &[u64], register, fingerprint, stamp, reading, flag, kind, number) -> (rule, class, verdict);
+            /// 1 and the smallest stamp for which [`take_batch`] would give the verdict of the wanted number; 0 and 0 where no stamp does.
+            stamp_for(settings: &[u64], words: &[u64], register, fingerprint, reading, flag, kind, number, wanted) -> (found, stamp);
             /// 1 where any bucket of the register holds the fingerprint, else 0.
             contains_hash(settings: &[u64], words: &[u64], register, fingerprint) -> (held);
             /// Raises a pending register's floor and lets it judge: 1. A register that is not pending is left as it is: 0.

@@ -233,6 +233,55 @@ impl Gateway {
         Ok(Reason::of(rule, class).expect("the library names one of sixteen rules"))
     }
 
+    /// The smallest stamp with which a [`take_batch`](Self::take_batch) of the fingerprint would get the wanted verdict; none where no
+    /// stamp would. Nothing is altered, and no sweep is made. docs/HOST-GUIDE.md, "How to provoke each verdict", has an order in which
+    /// the verdicts can be brought about.
+    ///
+    /// ```
+    /// # use strikes::{Deliverer, Gateway, Limits, Reading, Refusal, Settings, Start, Ticket, Verdict, Window, Windows};
+    /// # fn main() -> Result<(), Refusal> {
+    /// let windows = Windows { origin: Window::of(10_000, 2_000), copy: Window::of(20_000, 2_000), bucket: 1_000, slots: 8 };
+    /// # let settings = Settings::new().register(windows);
+    /// # let limits = Limits { feeder: 9, feeders: 9, peer: 9, peers: 9, relay: 9 };
+    /// let mut gateway = Gateway::open(&settings, &limits, &[Start::Empty])?;
+    /// let (now, meter) = (Reading::at(100_000), Deliverer::Feeder(1));
+    /// gateway.take(0, Ticket { fingerprint: 7, stamp: 100_000 }, now, meter)?;
+    ///
+    /// let stamp_for = |gateway: &Gateway, wanted| gateway.stamp_for(0, 7, now, meter, wanted);
+    /// assert_eq!(stamp_for(&gateway, Verdict::Late)?, Some(0));
+    /// assert_eq!(stamp_for(&gateway, Verdict::New)?, Some(90_000)); // the window's first
+    /// assert_eq!(stamp_for(&gateway, Verdict::Duplicate)?, Some(99_001)); // the first of the bucket that holds it
+    /// assert_eq!(stamp_for(&gateway, Verdict::Ahead)?, Some(102_001));
+    /// assert_eq!(stamp_for(&gateway, Verdict::Full)?, None);
+    ///
+    /// gateway.close()?;
+    /// assert_eq!((stamp_for(&gateway, Verdict::New)?, stamp_for(&gateway, Verdict::Full)?), (None, Some(90_000)));
+    /// # Ok(())
+    /// # }
+    /// ```
+    pub fn stamp_for(
+        &self,
+        register: u64,
+        fingerprint: u64,
+        now: Reading,
+        who: Deliverer,
+        wanted: Verdict,
+    ) -> Result<Option<u64>, Refusal> {
+        let (kind, number) = who.codes();
+        let (found, stamp) = raw::stamp_for(
+            &self.settings,
+            &self.words,
+            register,
+            fingerprint,
+            now.ms,
+            u64::from(now.judging),
+            kind,
+            number,
+            wanted.number(),
+        )?;
+        Ok((found == 1).then_some(stamp))
+    }
+
     /// Whether any bucket of the register holds the fingerprint.
     pub fn contains_hash(&self, register: u64, fingerprint: u64) -> Result<bool, Refusal> {
         let held = raw::contains_hash(&self.settings, &self.words, register, fingerprint)?;

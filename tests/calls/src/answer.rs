@@ -14,6 +14,18 @@ pub enum Verdict {
     Unjudged,
 }
 
+impl Verdict {
+    /// By their numbers.
+    pub const ALL: [Self; 6] = [
+        Self::New,
+        Self::Duplicate,
+        Self::Late,
+        Self::Ahead,
+        Self::Full,
+        Self::Unjudged,
+    ];
+}
+
 /// The rule that gives a take's verdict: the first that is met, in this order; `Accepted` where none is.
 #[derive(Clone, Copy, Debug, PartialEq, Eq, Hash, PartialOrd, Ord)]
 pub enum Reason {
@@ -77,6 +89,8 @@ pub enum Answer {
     Viewed(Vec<u64>),
     /// A take's verdict, and the rule that gives it.
     Because(Verdict, Reason),
+    /// The smallest stamp that gives a verdict, or none.
+    Stamp(Option<u64>),
     Refused(u64),
     /// The tool does not run this call: its answer is not compared.
     Apart,
@@ -145,6 +159,9 @@ impl fmt::Display for Answer {
                 words.iter().try_for_each(|word| write!(f, " {word}"))
             }
             Self::Because(verdict, reason) => write!(f, "{verdict} {reason}"),
+            // A bare stamp could be taken for a refusal.
+            Self::Stamp(Some(stamp)) => write!(f, "at {stamp}"),
+            Self::Stamp(None) => f.write_str("none"),
             Self::Refused(number) => write!(f, "{number}"),
             Self::Apart => f.write_str("-"),
             Self::Broke => f.write_str("broke"),
@@ -174,5 +191,11 @@ mod tests {
             "duplicate held 1"
         );
         assert_eq!(text(Verdict::Full, Reason::OwnShare), "full own-share");
+    }
+
+    #[test]
+    fn a_stamp_is_no_refusal() {
+        assert_eq!(Answer::Stamp(Some(1)).to_string(), "at 1");
+        assert_eq!(Answer::Stamp(None).to_string(), "none");
     }
 }

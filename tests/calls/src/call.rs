@@ -2,6 +2,7 @@
 
 use std::fmt;
 
+use crate::answer::Verdict;
 use crate::bytes::Hex;
 use crate::look::Look;
 use crate::settings::{Limits, Settings};
@@ -52,6 +53,30 @@ impl Who {
             Self::Restored(class) => class as usize,
             Self::Kind(..) => unreachable!("asked of a listed deliverer only"),
         }
+    }
+}
+
+/// The verdict that a stamp is looked for.
+#[derive(Clone, Copy, Debug, PartialEq, Eq)]
+pub enum Wanted {
+    Verdict(Verdict),
+    /// Any code.
+    Code(u64),
+}
+
+impl Wanted {
+    /// Its number in the entry points.
+    pub fn number(self) -> u64 {
+        match self {
+            Self::Verdict(verdict) => verdict as u64,
+            Self::Code(code) => code,
+        }
+    }
+
+    /// The verdict that it names, if its code is a listed one.
+    pub fn listed(self) -> Option<Verdict> {
+        let number = usize::try_from(self.number()).ok()?;
+        Verdict::ALL.get(number).copied()
     }
 }
 
@@ -197,6 +222,15 @@ impl fmt::Display for Who {
             Self::Relay => write!(f, "r"),
             Self::Restored(class) => write!(f, "x:{class}"),
             Self::Kind(kind, id) => write!(f, "k:{kind}:{id}"),
+        }
+    }
+}
+
+impl fmt::Display for Wanted {
+    fn fmt(&self, f: &mut fmt::Formatter<'_>) -> fmt::Result {
+        match self {
+            Self::Verdict(verdict) => write!(f, "{verdict}"),
+            Self::Code(code) => write!(f, "v:{code}"),
         }
     }
 }

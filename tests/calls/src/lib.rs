@@ -16,7 +16,7 @@ pub mod replay;
 pub mod settings;
 
 pub use answer::{Answer, Reason, Verdict};
-pub use call::{Call, Form, Start, Who};
+pub use call::{Call, Form, Start, Wanted, Who};
 pub use look::{Length, Look, Part};
 pub use machine::Machine;
 pub use settings::{Limits, Settings, Window, Windows};

@@ -2,20 +2,21 @@
 
 use std::fmt;
 
-use crate::call::Who;
+use crate::call::{Wanted, Who};
 use crate::read::{FromLine, Words};
 
 /// Hands the table of reading calls to a macro, which makes something for each of them.
 ///
 /// A line is `Call name(parts) -> answer;`. The call is written as its name and its parts, and the register runs it at the entry point
 /// of the same name. A part without a type is a 64-bit number. A `Length` comes last: the entry point writes into an output of so many
-/// words. The answer is `whether` (yes or no), `perhaps` (none or a number), `number`, `numbers`, `view` (what was written) or `reason`
-/// (a verdict and the rule that gives it).
+/// words. The answer is `whether` (yes or no), `perhaps` (none or a number), `number`, `numbers`, `view` (what was written), `reason` (a
+/// verdict and the rule that gives it) or `stamp` (a stamp or none).
 #[macro_export]
 macro_rules! looks {
     ($make:ident) => {
         $make! {
             Explain explain(register, fingerprint, stamp, reading, flag, who: Who) -> reason;
+            StampFor stamp_for(register, fingerprint, reading, flag, who: Who, wanted: Wanted) -> stamp;
             ContainsHash contains_hash(register, fingerprint) -> whether;
             Floor floor(register) -> perhaps;
             Pending pending(register) -> whether;
@@ -36,6 +37,7 @@ pub type Length = Option<u64>;
 pub enum Part {
     Number(u64),
     Who(Who),
+    Wanted(Wanted),
     Length(Length),
 }
 
@@ -51,6 +53,12 @@ impl From<Who> for Part {
     }
 }
 
+impl From<Wanted> for Part {
+    fn from(wanted: Wanted) -> Self {
+        Self::Wanted(wanted)
+    }
+}
+
 impl From<Length> for Part {
     fn from(length: Length) -> Self {
         Self::Length(length)
@@ -63,6 +71,7 @@ impl fmt::Display for Part {
         match self {
             Self::Number(number) | Self::Length(Some(number)) => write!(f, " {number}"),
             Self::Who(who) => write!(f, " {who}"),
+            Self::Wanted(wanted) => write!(f, " {wanted}"),
             Self::Length(None) => Ok(()),
         }
     }

@@ -1,7 +1,8 @@
 //! Reads a line of a list: a call, the answer recorded with it, or neither.
 
+use crate::answer::Verdict;
 use crate::bytes::of_hex;
-use crate::call::{Call, Form, Start, Ticket, Who};
+use crate::call::{Call, Form, Start, Ticket, Wanted, Who};
 use crate::look::{Length, Look};
 use crate::settings::{Limits, Settings, Window, Windows};
 
@@ -75,6 +76,12 @@ impl FromLine for u64 {
 impl FromLine for Who {
     fn read(words: &mut Words<'_>, _: &str) -> Result<Self, String> {
         who(words.word("the deliverer")?)
+    }
+}
+
+impl FromLine for Wanted {
+    fn read(words: &mut Words<'_>, _: &str) -> Result<Self, String> {
+        wanted(words.word("the wanted verdict")?)
     }
 }
 
@@ -247,6 +254,18 @@ pub fn who(text: &str) -> Result<Who, String> {
     }
 }
 
+fn wanted(text: &str) -> Result<Wanted, String> {
+    let named = |verdict: &Verdict| verdict.to_string() == text;
+    match (
+        Verdict::ALL.into_iter().find(named),
+        after(text, "v").as_deref(),
+    ) {
+        (Some(verdict), _) => Ok(Wanted::Verdict(verdict)),
+        (_, Some([code])) => Ok(Wanted::Code(*code)),
+        _ => Err(format!("'{text}' is no verdict")),
+    }
+}
+
 fn bytes(words: &mut Words<'_>) -> Result<Vec<u8>, String> {
     of_hex(words.word("the bytes")?).ok_or_else(|| "the bytes are no lower-case hex".into())
 }
@@ -282,6 +301,13 @@ mod tests {
             "take_batch 0 1 2 3 1 x:2",
             "take 0 1 2 3 1 k:5:6",
             "explain 0 1 2 3 0 x:2",
+            "stamp_for 0 1 2 1 f:4 new",
+            "stamp_for 0 1 2 1 p:4 duplicate",
+            "stamp_for 0 1 2 1 r late",
+            "stamp_for 0 1 2 1 x:0 ahead",
+            "stamp_for 0 1 2 1 f:4 full",
+            "stamp_for 0 1 2 0 f:4 unjudged",
+            "stamp_for 0 1 2 1 k:5:6 v:6",
             "contains_hash 0 18446744073709551615",
             "begin 0 1",
             "expire 1",
@@ -338,6 +364,11 @@ mod tests {
             "lift 0",
             "explain 0 1 2 3 f:1",
             "explain 0 1 2 3 1",
+            "stamp_for 0 1 2 1 f:1",
+            "stamp_for 0 1 2 1 f:1 newer",
+            "stamp_for 0 1 2 1 f:1 0",
+            "stamp_for 0 1 2 1 f:1 v:",
+            "stamp_for 0 1 2 1 f:1 v:1:1",
             "view_register",
             "view_register f:1",
             "view_register 0 4 4",

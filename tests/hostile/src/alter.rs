@@ -3,7 +3,7 @@
 
 use generator::random::Random;
 
-use crate::scene::{FRONT, HEAD, HEADING, Scene, anything};
+use scenes::{FRONT, HEAD, HEADING, Scene, anything};
 
 /// What was done to the words, for the counts.
 #[derive(Clone, Copy, Debug, PartialEq, Eq, PartialOrd, Ord, Hash)]

@@ -6,7 +6,7 @@ use generator::random::Random;
 use soundness::{Ask, Call, Due, SETTINGS, refusal, view};
 
 use crate::alter::{Altered, alter};
-use crate::scene::{Scene, anything};
+use scenes::{Scene, anything};
 
 /// The words of an output for a view at most: more than a view of any scene takes.
 pub const MOST_VIEWED: usize = 1_024;
@@ -95,6 +95,7 @@ pub struct Numbers {
     pub flag: u64,
     pub kind: u64,
     pub number: u64,
+    pub wanted: u64,
     pub class: u64,
 }
 
@@ -192,6 +193,7 @@ impl Input {
             register: takes("register").then_some(n.register),
             flag: takes("flag").then_some(n.flag),
             deliverer: takes("kind").then_some((n.kind, n.number)),
+            wanted: takes("wanted").then_some(n.wanted),
             class: takes("class").then_some(n.class),
             bytes: takes("bytes").then_some(&self.bytes),
             out: lent(Output::Bytes),
@@ -310,6 +312,11 @@ fn numbers(scene: &Scene, random: &mut Random) -> Numbers {
         },
         number: if random.percent(90) {
             random.below(4)
+        } else {
+            anything(random)
+        },
+        wanted: if random.percent(95) {
+            random.below(6)
         } else {
             anything(random)
         },

@@ -1,6 +1,7 @@
 //! What a call left, held against what is due.
 
-use soundness::{Due, broken, reason, refusal, settings_of, view};
+use calls::Settings;
+use soundness::{Ask, Due, batch_verdict, broken, reason, refusal, settings_of, view};
 
 use crate::guard::Against;
 use crate::input::{Entry, Input, Output};
@@ -12,7 +13,7 @@ fn most(input: &Input, out: &str) -> u64 {
         "verdict" => 5,
         "rule" => 15,
         "class" => 2,
-        "held" | "begun" | "whole" | "present" | "pending" => 1,
+        "held" | "begun" | "whole" | "present" | "pending" | "found" => 1,
         "read" => input.bytes.len() as u64,
         "written" => input.output_length() as u64,
         _ => u64::MAX,
@@ -96,6 +97,9 @@ fn went_through(input: &Input, after: &After) -> Result<(), String> {
             return Err(format!("{due:?} is due, but {:?} is told", after.numbers));
         }
     }
+    if input.entry == Entry::stamp_for {
+        stamp_told(&settings, input, after.numbers[0] == 1, after.numbers[1])?;
+    }
     if input.entry.only_reads() {
         let same = after.words == input.words;
         return if same {
@@ -110,5 +114,20 @@ fn went_through(input: &Input, after: &After) -> Result<(), String> {
     match broken(&settings, &after.words) {
         None => Ok(()),
         Some(rule) => Err(format!("it left words that are not sound: {rule:?}")),
+    }
+}
+
+/// The stamp that is told gives the wanted verdict; where none is told it is 0; and the input's own stamp gives it only if it is no smaller.
+/// That no other is smaller is for the proofs and tests/stamps.
+fn stamp_told(settings: &Settings, input: &Input, found: bool, stamp: u64) -> Result<(), String> {
+    let (own, wanted) = (input.ask(), input.numbers.wanted);
+    let gives = |stamp| batch_verdict(settings, &input.words, &Ask { stamp, ..own }) == wanted;
+    match (found, stamp) {
+        (true, _) if !gives(stamp) => Err(format!("stamp {stamp} does not give verdict {wanted}")),
+        (false, 1..) => Err(format!("none is found, and stamp is {stamp}")),
+        _ if gives(own.stamp) && (!found || own.stamp < stamp) => {
+            Err(format!("stamp {} gives verdict {wanted}", own.stamp))
+        }
+        _ => Ok(()),
     }
 }

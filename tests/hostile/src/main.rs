@@ -14,7 +14,7 @@ mod input;
 mod judge;
 mod lent;
 mod report;
-mod scene;
+mod settings;
 
 use std::collections::BTreeMap;
 use std::process::ExitCode;
@@ -25,7 +25,7 @@ use generator::random::Random;
 use guard::Against;
 use input::{Entry, Input};
 use lent::Lent;
-use scene::Scene;
+use scenes::{Held, Scene};
 use soundness::{Broken, Due};
 
 /// The inputs of one scene, and the most words that a scene may need.
@@ -102,7 +102,7 @@ fn run(seed: u64, first: u64, last: u64) -> ExitCode {
 fn scene_of(seed: u64, number: u64) -> Scene {
     let mut random = Random::new(seed ^ number.wrapping_mul(0xd134_2543_de82_ef95));
     loop {
-        let scene = Scene::new(&mut random);
+        let scene = settings::scene(&mut random);
         if scene.words.len() <= WORDS {
             return scene;
         }
@@ -128,7 +128,7 @@ impl Counts {
     }
 
     fn count_crowded(&mut self, scene: &Scene, due: Due) {
-        if scene.crowded {
+        if scene.held == Held::Crowded {
             self.crowded.0 += u64::from(due == Due::No);
             self.crowded.1 += u64::from(due == Due::Unsound(Broken::Reached));
         }

@@ -10,7 +10,7 @@ use crate::guard::Against;
 use crate::input::{Entry, Input, Numbers};
 use crate::judge::judge;
 use crate::lent::Lent;
-use crate::scene::{HEADING, Layout};
+use scenes::{HEADING, Layout};
 
 /// Makes every part, and then every word, that plays no part what an opening would make it.
 pub fn cut(lent: &mut Lent, input: &Input, against: Against) -> Input {
@@ -170,6 +170,7 @@ fn number(input: &Input, name: &str, number: u64) -> String {
         "kind" => format!("k:{number}:{}", input.numbers.number),
         // It stands with its kind.
         "number" => String::new(),
+        "wanted" => format!("v:{number}"),
         _ => number.to_string(),
     }
 }

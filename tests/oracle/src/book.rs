@@ -167,7 +167,7 @@ impl Book {
                 let entries = reading::held(&self.shares, who) as u64;
                 view(words.chain([entries]).collect(), length)
             }
-            // What the Rust has no answer to, as the rule behind a verdict.
+            // What the Rust has no answer to: the rule behind a verdict, and the stamp for one.
             _ => Answer::Apart,
         }
     }

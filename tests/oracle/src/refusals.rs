@@ -36,10 +36,11 @@ pub fn unfit(call: &Call) -> bool {
     }
 }
 
-/// Whether a part of a reading call is a deliverer, a class or a flag that is not there.
+/// Whether a part of a reading call is a deliverer, a class, a flag or a verdict that is not there.
 fn unlisted(part: (&str, Part)) -> bool {
     match part {
         (_, Part::Who(who)) => who.listed().is_none(),
+        (_, Part::Wanted(wanted)) => wanted.listed().is_none(),
         ("class", Part::Number(class)) => class > 2,
         ("flag", Part::Number(flag)) => flag > 1,
         _ => false,

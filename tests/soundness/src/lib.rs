@@ -9,7 +9,7 @@ mod refusal;
 mod view;
 mod words;
 
-pub use reason::{Ask, Told, reason};
+pub use reason::{Ask, Told, batch_verdict, reason};
 pub use refusal::{Call, Due, refusal};
 pub use view::view;
 pub use words::{Broken, broken, sound};

@@ -29,6 +29,7 @@ pub struct Told {
 const NEW: u64 = 0;
 const DUPLICATE: u64 = 1;
 const LATE: u64 = 2;
+const AHEAD: u64 = 3;
 const FULL: u64 = 4;
 const UNJUDGED: u64 = 5;
 
@@ -62,6 +63,16 @@ pub fn reason(settings: &Settings, words: &[u64], ask: &Ask) -> Told {
         Some(generation) if generation[3] != swept.bucket(ask) => told(14, 0, LATE),
         Some(generation) if slots_for(generation) > swept.windows.slots => told(15, 0, FULL),
         _ => told(0, 0, NEW),
+    }
+}
+
+/// The number of a take_batch's verdict: of a Late ticket stamped past the front of its window Ahead.
+pub fn batch_verdict(settings: &Settings, words: &[u64], ask: &Ask) -> u64 {
+    let swept = Swept::of(settings, words, ask);
+    let past_front = outside(swept.window(ask), ask) == Some(6);
+    match reason(settings, words, ask).verdict {
+        LATE if past_front => AHEAD,
+        verdict => verdict,
     }
 }
 

@@ -17,6 +17,8 @@ pub struct Call<'a> {
     pub flag: Option<u64>,
     /// A kind and a number.
     pub deliverer: Option<(u64, u64)>,
+    /// The number of a verdict.
+    pub wanted: Option<u64>,
     pub class: Option<u64>,
     /// A dump to be read.
     pub bytes: Option<&'a [u8]>,
@@ -92,6 +94,7 @@ fn fits(settings: &Settings, call: &Call<'_>) -> bool {
             .is_none_or(|starts| starts_fit(settings, starts))
         && call.flag.is_none_or(|flag| flag <= 1)
         && call.deliverer.is_none_or(deliverer_fits)
+        && call.wanted.is_none_or(|wanted| wanted <= 5)
         && call.class.is_none_or(|class| class <= 2)
 }
 

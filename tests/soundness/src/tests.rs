@@ -1,6 +1,6 @@
 //! The rules tried one by one on the smallest words: one register of ring 2 and S 2, two places of two pairs.
 
-use crate::{Ask, Broken, Call, Told, broken, reason, refusal, settings_of, view};
+use crate::{Ask, Broken, Call, Told, batch_verdict, broken, reason, refusal, settings_of, view};
 
 fn settings() -> [u64; 29] {
     let mut words = [0; 29];
@@ -302,6 +302,31 @@ fn each_rule_is_named() {
     }
 }
 
+/// At 4 with a floor of 9: past the front at 5, whether at the floor or above it.
+#[test]
+fn a_batch_form_says_ahead_past_the_front_alone() {
+    let fit = settings_of(&settings()).expect("fit settings");
+    let mut words = taken();
+    words[REGISTER + 8] = 1;
+    words[REGISTER + 9] = 9;
+    let said = |fingerprint, stamp| {
+        let ask = Ask {
+            register: 0,
+            fingerprint,
+            stamp,
+            reading: 4,
+            flag: 1,
+            deliverer: (0, 77),
+        };
+        let take = reason(&fit, &words, &ask).verdict;
+        (take, batch_verdict(&fit, &words, &ask))
+    };
+    assert_eq!(said(8, 3), (2, 2));
+    assert_eq!(said(7, 4), (1, 1));
+    assert_eq!(said(8, 5), (2, 3));
+    assert_eq!(said(8, 10), (2, 3));
+}
+
 #[test]
 fn each_argument_earns_its_refusal() {
     let (settings, words) = (settings(), taken());
@@ -326,6 +351,10 @@ fn each_argument_earns_its_refusal() {
         },
         Call {
             deliverer: Some((3, 3)),
+            ..Call::default()
+        },
+        Call {
+            wanted: Some(6),
             ..Call::default()
         },
         Call {

@@ -111,6 +111,18 @@ enum-known-answer-11 c = search needs
 send-reason-requires : tie.Need-send-reason-requires
 send-reason-requires c κs = search needs
 
+enum-told-7 : tie.Need-enum-told-7
+enum-told-7 c = search needs
+
+two-requires-6 : tie.Need-two-requires-6
+two-requires-6 c κs = search needs
+
+enum-known-answer-12 : tie.Need-enum-known-answer-12
+enum-known-answer-12 c = search needs
+
+two-requires-7 : tie.Need-two-requires-7
+two-requires-7 c κs = search needs
+
 returns : tie.Need-returns
 unfolding answer-number answer-values
 returns c = as-sent (c .before .before .answer .given .1) (c .alone .ensures) (record { number = refl; values = refl; few = omega arith; rest = refl })
@@ -181,6 +193,14 @@ returns-17 : tie.Need-returns-17
 unfolding answer-number answer-values
 returns-17 c = as-sent (c .before .before .answer11 .given .1) (c .send-reason .ensures) (record { number = refl; values = refl; few = omega arith; rest = refl })
 
+returns-18 : tie.Need-returns-18
+unfolding answer-number answer-values
+returns-18 c = as-sent (c .before .enum-told7 .given .1) (c .two6 .ensures) (record { number = refl; values = refl; few = omega arith; rest = refl })
+
+returns-19 : tie.Need-returns-19
+unfolding answer-number answer-values
+returns-19 c = as-sent (c .before .before .answer12 .given .1) (c .two7 .ensures) (record { number = refl; values = refl; few = omega arith; rest = refl })
+
 pub send-spec : {M : Type 1} → statement M
 send-spec =
     tie.close
@@ -220,6 +240,10 @@ send-spec =
     one-requires-8
     enum-known-answer-11
     send-reason-requires
+    enum-told-7
+    two-requires-6
+    enum-known-answer-12
+    two-requires-7
     returns
     returns-2
     returns-3
@@ -236,4 +260,6 @@ send-spec =
     returns-14
     returns-15
     returns-16
-    returns-17)
+    returns-17
+    returns-18
+    returns-19)

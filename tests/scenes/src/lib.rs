@@ -1,7 +1,7 @@
 //! Settings and sound words to start from: some that calls have left, and some made up by the table of words, which no list of calls
 //! might reach.
 
-use calls::{Call, Limits, Machine, Settings, Window, Windows};
+use calls::{Call, Limits, Machine, Settings, Windows};
 use generator::random::Random;
 use generator::scene::Scene as List;
 use machine::Product;
@@ -48,27 +48,28 @@ impl Layout {
     }
 }
 
+/// The fingerprints that generations hold.
+#[derive(Clone, Copy, Debug, PartialEq, Eq)]
+pub enum Held {
+    Any,
+    /// Those for which probing starts at one slot, some of them too far on to be followed.
+    Crowded,
+    /// Small numbers, so that several generations hold the same ones.
+    Few,
+}
+
 pub struct Scene {
     pub settings: Settings,
     pub words: Vec<u64>,
     pub layout: Layout,
     /// About where its clock is.
     pub reading: u64,
-    /// Whether generations hold fingerprints for which probing starts at one slot, some of them too far on to be followed.
-    pub crowded: bool,
+    pub held: Held,
 }
 
 impl Scene {
-    pub fn new(random: &mut Random) -> Self {
-        match random.below(20) {
-            0..12 => Self::called(random),
-            12 => Self::made(crowded_settings(random), true, random),
-            _ => Self::made(small_settings(random), false, random),
-        }
-    }
-
     /// What a generated list of calls leaves.
-    fn called(random: &mut Random) -> Self {
+    pub fn called(random: &mut Random) -> Self {
         let small = [
             "full",
             "pairs",
@@ -103,24 +104,19 @@ impl Scene {
             words,
             layout,
             reading,
-            crowded: false,
+            held: Held::Any,
         }
     }
 
-    /// Words made up from the table of words, free ones with any content.
-    fn made(settings: Settings, crowded: bool, random: &mut Random) -> Self {
+    /// Words made up from the table of words, free ones with any content, for a clock about this reading.
+    pub fn made(settings: Settings, reading: u64, held: Held, random: &mut Random) -> Self {
         let layout = Layout::of(&settings);
-        let reading = if random.percent(20) {
-            random.word()
-        } else {
-            random.between(0, 1_000_000)
-        };
         let mut scene = Self {
             words: vec![0; layout.needed],
             settings,
             layout,
             reading,
-            crowded,
+            held,
         };
         scene.make_front(random);
         for class in 0..3 {
@@ -146,7 +142,7 @@ impl Scene {
         ];
         self.words[..5].copy_from_slice(&kept);
         self.words[5..10].copy_from_slice(&settings.limits.all());
-        self.words[10] = random.below(2);
+        self.words[10] = u64::from(random.percent(25));
         self.words[11..FRONT].fill_with(|| anything(random));
     }
 
@@ -222,10 +218,10 @@ impl Scene {
         let swept = match random.below(4) {
             0 => random.word(),
             1 => random.pick(&[0, 1, u64::MAX]),
-            _ => self.reading / windows.bucket,
+            _ => self.about(&windows, random) / windows.bucket,
         };
-        let floor = random.pick(&[0, 1, u64::MAX, self.reading]);
-        let present = random.below(2);
+        let floor = self.stamp(&windows, random);
+        let present = u64::from(random.percent(35));
         self.words[at..at + 11].copy_from_slice(&[
             windows.origin.behind,
             windows.origin.ahead,
@@ -240,38 +236,44 @@ impl Scene {
             u64::from(random.percent(15)),
         ]);
         self.words[at + 11..at + HEADING].fill_with(|| anything(random));
-        let full = random.percent(30);
+        let empty = random.pick(&[5, 60, 60, 95]);
         for number in 0..3 * ring {
             let generation = at + HEADING + number * width;
-            self.make_generation(
-                generation,
-                (number % ring) as u64,
-                ring as u64,
-                windows.slots,
-                full,
-                random,
-            );
+            let position = (number % ring) as u64;
+            self.make_generation(generation, position, &windows, empty, random);
         }
     }
 
+    /// A number near the reading: as far from it as a ring spans, at most.
+    fn about(&self, windows: &Windows, random: &mut Random) -> u64 {
+        let span = windows.ring() * windows.bucket;
+        let later = self.reading.saturating_add(random.below(span));
+        later.saturating_sub(random.below(span))
+    }
+
+    fn stamp(&self, windows: &Windows, random: &mut Random) -> u64 {
+        let about = self.about(windows, random);
+        random.pick(&[0, 1, u64::MAX, self.reading, about])
+    }
+
+    /// Empty at this chance; where few are, those that are not are full.
     fn make_generation(
         &mut self,
         at: usize,
         position: u64,
-        ring: u64,
-        most: u64,
-        full: bool,
+        windows: &Windows,
+        empty: u64,
         random: &mut Random,
     ) {
         self.words[at + 3] = anything(random);
-        if random.percent(if full { 5 } else { 60 }) {
+        if random.percent(empty) {
             return;
         }
         let mut slots = 2 << random.below(10);
-        while slots > most {
+        while slots > windows.slots {
             slots /= 2;
         }
-        let held = if full {
+        let held = if empty < 50 {
             3 * slots / 4
         } else {
             random.between(1, 3 * slots / 4)
@@ -280,23 +282,39 @@ impl Scene {
         let first = random.below(slots);
         let mut inserted = 0;
         while inserted < held {
-            let fingerprint = match self.crowded {
-                true => first + slots * random.between(1, 4_000),
-                false => fingerprint(random),
+            let fingerprint = match self.held {
+                Held::Any => fingerprint(random),
+                Held::Crowded => first + slots * random.between(1, 4_000),
+                Held::Few => random.between(1, 2 * slots),
             };
             inserted += u64::from(insert(&mut self.words[table.clone()], fingerprint));
         }
-        let newest = random.pick(&[0, 1, u64::MAX, self.reading]);
+        let newest = self.stamp(windows, random);
         let oldest = random.pick(&[0, newest / 2, newest]);
         // The buckets of this position reach up to 2^64.
+        let ring = windows.ring();
         let last = (u64::MAX - position) / ring;
         let turn = match random.below(3) {
             0 => last,
             1 => random.below(last) + 1,
-            _ => (self.reading / 1_000 / ring).min(last),
+            _ => (windows.bucket_of(self.about(windows, random)) / ring).min(last),
         };
         let head = [slots, held, newest, position + turn * ring, oldest];
         self.words[at..at + HEAD].copy_from_slice(&head);
+    }
+}
+
+/// Settings of these registers, with any book.
+pub fn with_any_book(windows: Vec<Windows>, random: &mut Random) -> Settings {
+    let limit = |random: &mut Random| random.pick(&[0, 1, 5, 40, 1_000, 1_000_000]);
+    Settings {
+        registers: windows.len() as u64,
+        places: random.pick(&[1, 2, 3, 5]),
+        pairs: random.pick(&[2, 3, 4, 9]),
+        feeder_units: random.pick(&[0, 1, 3, 4_096]),
+        peer_units: random.pick(&[0, 1, 2, 4_096]),
+        limits: Limits::of([(); 5].map(|()| limit(random))),
+        windows,
     }
 }
 
@@ -329,52 +347,6 @@ fn insert(table: &mut [u64], fingerprint: u64) -> bool {
     }
     table[at] = fingerprint;
     true
-}
-
-fn small_settings(random: &mut Random) -> Settings {
-    let registers = random.pick(&[1, 1, 1, 2, 3, 4]);
-    let windows = (0..registers).map(|_| small_windows(random)).collect();
-    settings_of(windows, random)
-}
-
-/// One register of few generations with many slots.
-fn crowded_settings(random: &mut Random) -> Settings {
-    let windows = Windows {
-        slots: random.pick(&[256, 512]),
-        bucket: 60_000,
-        ..Windows::default()
-    };
-    settings_of(vec![windows], random)
-}
-
-fn settings_of(windows: Vec<Windows>, random: &mut Random) -> Settings {
-    let limit = |random: &mut Random| random.pick(&[0, 1, 5, 40, 1_000, 1_000_000]);
-    Settings {
-        registers: windows.len() as u64,
-        places: random.pick(&[1, 2, 3, 5]),
-        pairs: random.pick(&[2, 3, 4, 9]),
-        feeder_units: random.pick(&[0, 1, 3, 4_096]),
-        peer_units: random.pick(&[0, 1, 2, 4_096]),
-        limits: Limits::of([(); 5].map(|()| limit(random))),
-        windows,
-    }
-}
-
-fn small_windows(random: &mut Random) -> Windows {
-    let bucket = random.pick(&[1, 7, 1_000, 60_000]);
-    let span = |random: &mut Random| (bucket * random.below(4)).min(3_600_000);
-    Windows {
-        origin: Window {
-            behind: span(random),
-            ahead: span(random),
-        },
-        copy: Window {
-            behind: span(random),
-            ahead: span(random),
-        },
-        bucket,
-        slots: random.pick(&[2, 4, 8, 16, 64]),
-    }
 }
 
 fn any_number(random: &mut Random) -> u64 {

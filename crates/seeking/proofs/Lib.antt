@@ -1,0 +1,3 @@
+pub mod Unswept
+pub mod Trying
+pub mod Sought
