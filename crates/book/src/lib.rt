@@ -1,5 +1,7 @@
 // The share book of one class, in its own part of the lent words: entries, holders, units and `expired`, then P places, each its
 // head and E pairs, in order of arrival. A draw is a search, a reading test that says why not, and a step that enters.
+#![tactic(auto)]
+
 pub mod decide;
 pub mod front;
 pub mod place;
@@ -21,7 +23,7 @@ use runs::moves;
 
 // What a class holds of one deliverer and one second: the deliverer's place (the first unused one where it has none), its entries
 // and pairs, how many of the pairs are earlier than the second, and whether the second is listed.
-#[derive(Drop)]
+#[derive(Clone, Copy)]
 pub struct Spot {
     pub second: u64,
     pub place: usize,

@@ -49,7 +49,7 @@ fn id_word(who: Deliverer) -> u64
 }
 
 // What a place says of a second: its entries and pairs, how many pairs are earlier, and whether the second is listed.
-#[derive(Drop)]
+#[derive(Clone, Copy)]
 pub struct Seen {
     pub entries: u64,
     pub pairs: u64,
@@ -142,7 +142,7 @@ pub fn remove(place: &mut [u64], k: usize)
 }
 
 // What an expiry leaves of a place, and the entries that went.
-#[derive(Drop)]
+#[derive(Clone, Copy)]
 pub struct Left {
     pub pairs: usize,
     pub gone: u64,

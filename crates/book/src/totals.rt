@@ -7,7 +7,7 @@ ghost use Rattle.model.specs.Widths.{class_head};
 
 use numbers::layout;
 
-#[derive(Drop)]
+#[derive(Clone, Copy)]
 pub struct Totals {
     pub entries: u64,
     pub holders: u64,

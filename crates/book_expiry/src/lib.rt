@@ -1,5 +1,7 @@
 // The expiry of one class of the share book, in the class's own part of the lent words: pairs with seconds before a given one
 // go, a place that has none left goes too, and later places close up behind those kept.
+#![tactic(auto)]
+
 ghost use Rattle.std.specs.Prelude.{◌+◌, ◌≤◌, ◌≡◌, length, get_or};
 ghost use Rattle.model.specs.Numbers.{top32};
 ghost use Rattle.model.specs.Widths.{place_head};
@@ -14,7 +16,7 @@ use numbers::{capped, layout, starts, units};
 use runs::moves;
 
 // The places kept so far, with their entries and units. What the totals lose is what is not kept.
-#[derive(Drop)]
+#[derive(Clone, Copy)]
 struct Kept {
     places: usize,
     entries: u64,

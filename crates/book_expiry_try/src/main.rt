@@ -2,6 +2,8 @@
 // printed is first the soundness test on words with one thing wrong (and on words with another free cell), then, for each expiry,
 // whether the words were sound before and after it, and the words: pairs that go from a place, a place that goes while the later
 // one closes up, a clock that steps back by two seconds and by more, and the largest second.
+#![tactic(auto)]
+
 ghost use Rattle.std.specs.Prelude.{◌≤◌, ◌<◌, ◌≡◌, true, length};
 ghost use Rattle.model.specs.declared.Class.TheVariants.{Feeders};
 ghost use Rattle.model.specs.Numbers.{top32};

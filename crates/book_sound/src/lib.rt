@@ -1,5 +1,7 @@
 // The soundness test of one class of the share book, for any content. A class is its totals and P places;
 // nothing is believed of them before it is tested, and no sum can wrap.
+#![tactic(auto)]
+
 ghost use Rattle.std.specs.Prelude.{◌≡◌, true, length};
 ghost use Rattle.model.specs.Settings.{shares_fit};
 ghost use Rattle.model.specs.BookWords.{class_form};

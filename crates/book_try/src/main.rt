@@ -1,6 +1,8 @@
 // The share book of the Feeders with four places of two pairs, a place at 1 unit, and limits of 12. What is printed is the worked
 // case of shares (three Feeders get 11, 5 and 3 entries, a fourth 1, and its second is refused by twice the limit), then draws
 // given back: a pair lowered, a pair that goes, a second that is not listed, and a place that goes from the middle.
+#![tactic(auto)]
+
 ghost use Rattle.std.specs.Prelude.{◌≤◌, ◌≡◌, length};
 ghost use Rattle.model.specs.declared.Class.TheVariants.{Feeders};
 ghost use Rattle.model.specs.Numbers.{top32};

@@ -1,5 +1,7 @@
 // A deliverer's view, from its class's own part of the lent words: of each of its pairs, seconds rising, the second and the count,
 // and then its entries. A deliverer without a place has no pairs and 0 entries. How pairs lie in words is for `pairs` to know.
+#![tactic(auto)]
+
 ghost use Rattle.std.specs.Prelude.{◌≡◌, ◌+◌, ◌*◌, ◌≤◌, length, get_or};
 ghost use Rattle.model.specs.Class.{class_of};
 ghost use Rattle.book.specs.PlaceRules.{Wide};

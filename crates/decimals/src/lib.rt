@@ -1,9 +1,11 @@
 // Decimal numbers below 2^64: read from a text, and written into one.
+#![tactic(auto)]
+
 ghost use Rattle.std.specs.Prelude.{◌≡◌, ◌+◌, ◌≤◌, ◌<◌, length};
 ghost use Rattle.decimals.specs.Texts.{with_digit, number_of, last_digit, text_of, with_text};
 
 // What a text names: a number, or none.
-#[derive(Drop)]
+#[derive(Clone, Copy)]
 pub enum Number {
     Is(u64),
     Not,

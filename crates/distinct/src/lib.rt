@@ -1,4 +1,6 @@
 // Whether words are distinct, zeros aside, by sorting a copy of them: n words take some n × log n steps, whatever they are.
+#![tactic(auto)]
+
 ghost use Rattle.std.specs.Prelude.{◌≡◌, ◌≤◌, length, replicate};
 ghost use Rattle.distinct.specs.Runs.{distinct, differs, spare_sorted, Sorts};
 

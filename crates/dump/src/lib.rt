@@ -1,4 +1,6 @@
 // A register's dump: its bytes as words, a reader of them, the walk over what a dump holds, and the writing of one.
+#![tactic(auto)]
+
 mod octets;
 mod of_register;
 mod reader;

@@ -6,14 +6,14 @@ ghost use Rattle.model.specs.Dump.{words_of};
 
 use crate::octets;
 
-#[derive(Drop)]
+#[derive(Clone, Copy)]
 pub struct Reader<'a> {
     pub bytes: &'a [u8],
     pub at: usize,
 }
 
 // A word that was read, and the position of the one after it.
-#[derive(Drop)]
+#[derive(Clone, Copy)]
 pub struct ReadWord {
     pub word: u64,
     pub next: usize,

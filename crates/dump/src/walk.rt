@@ -8,21 +8,21 @@ use crate::reader::read;
 use model::Bucket;
 
 // Where a walk comes to: past the end of the words, or to a word position.
-#[derive(Drop)]
+#[derive(Clone, Copy)]
 enum Passed {
     Short,
     To(usize),
 }
 
 // The lengths that a dump states: it is cut short, or it has so many words.
-#[derive(Drop)]
+#[derive(Clone, Copy)]
 pub enum Lengths {
     Cut,
     Read(usize),
 }
 
 // What leads a generation in a dump, and the word position of the one after it.
-#[derive(Drop)]
+#[derive(Clone, Copy)]
 pub struct Found {
     pub bucket: Bucket,
     pub newest: u64,

@@ -1,4 +1,6 @@
 // Expiry: what the clock has passed is given back to its deliverers, in the whole run of words that the settings need.
+#![tactic(auto)]
+
 mod least;
 
 ghost use Rattle.std.specs.Prelude.{◌≤◌};

@@ -1,5 +1,7 @@
 // A generation: the fingerprints of one bucket, in its own run of words. Its head leads (slots, held, newest, bucket, oldest), then
 // come the slots: as many as the first word says are live, and the rest of the run is 0.
+#![tactic(auto)]
+
 ghost use Rattle.std.specs.Prelude.{◌≡◌, cond, ◌≤◌, ◌<◌, min, length, eqb};
 ghost use Rattle.runs.specs.Turns.{silent};
 ghost use Rattle.model.specs.Widths.{generation_head};
@@ -19,7 +21,7 @@ pub use slots::find;
 pub use sound::{is_sound, one_if_held};
 
 // The words that lead a generation's run.
-#[derive(Drop)]
+#[derive(Clone, Copy)]
 pub struct Generation {
     // How many slots are live: 0, or a power of two.
     pub slots: u64,
@@ -33,7 +35,7 @@ pub struct Generation {
 }
 
 // What a generation forgets as it is dropped: nothing, or all up to the newest stamp that it held.
-#[derive(Drop)]
+#[derive(Clone, Copy)]
 pub enum Dropped {
     Nothing,
     Newest(u64),

@@ -2,6 +2,8 @@
 // dropped, and damaged words are refused. What is printed is the worked case of holding 1, 2, 3, 4, 6 and a seventh, with
 // fingerprints that start at the same slot. Two of them are inserted again: at 3 of 4 slots the slots stay 4, and at 6 of 8 there
 // is room, unlike for a seventh. Then 128 slots of which 95 are held, by fingerprints that all start at one slot.
+#![tactic(auto)]
+
 ghost use Rattle.std.specs.Prelude.{◌<◌};
 
 use generation::Dropped;

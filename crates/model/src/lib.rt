@@ -1,8 +1,9 @@
 // The types that every crate of the register shares.
 // The rules stand in specs/, one file for each section of the scope paper, and what is proved of them in proofs/.
+#![tactic(auto)]
 
 // A class of deliverers: each has places, limits and rings of its own.
-#[derive(Drop)]
+#[derive(Clone, Copy)]
 pub enum Class {
     Feeders,
     Peers,
@@ -10,7 +11,7 @@ pub enum Class {
 }
 
 // Who delivers a ticket. A restored deliverer carries the class that it is restored into.
-#[derive(Drop)]
+#[derive(Clone, Copy)]
 pub enum Deliverer {
     Feeder(u64),
     Peer(u64),
@@ -19,7 +20,7 @@ pub enum Deliverer {
 }
 
 // What a ticket is.
-#[derive(Drop)]
+#[derive(Clone, Copy)]
 pub enum Verdict {
     New,
     Duplicate,
@@ -30,7 +31,7 @@ pub enum Verdict {
 }
 
 // How a register starts: with no floor, waiting for the host's number, or at a floor.
-#[derive(Drop)]
+#[derive(Clone, Copy)]
 pub enum Start {
     Empty,
     Fallback,
@@ -38,7 +39,7 @@ pub enum Start {
 }
 
 // Where probing for a fingerprint ends: at the slot that holds it, at an empty slot, or nowhere.
-#[derive(Drop)]
+#[derive(Clone, Copy)]
 pub enum Probe {
     Held(usize),
     Free(usize),
@@ -46,7 +47,7 @@ pub enum Probe {
 }
 
 // The room found for a fingerprint: a position, or one of two refusals.
-#[derive(Drop)]
+#[derive(Clone, Copy)]
 pub enum Room {
     At(usize),
     Collides,
@@ -54,7 +55,7 @@ pub enum Room {
 }
 
 // What a share book says to a draw: granted, or the first rule that stands against it.
-#[derive(Drop)]
+#[derive(Clone, Copy)]
 pub enum Draw {
     Granted,
     Closed,
@@ -67,7 +68,7 @@ pub enum Draw {
 }
 
 // The rule that gives a take's verdict, in the order in which the rules are tried; `Accepted` where none stands against the ticket.
-#[derive(Drop)]
+#[derive(Clone, Copy)]
 pub enum Reason {
     Accepted,
     Pending,
@@ -89,7 +90,7 @@ pub enum Reason {
 }
 
 // What a call answers.
-#[derive(Drop)]
+#[derive(Clone, Copy)]
 pub enum Answer {
     // The refusal number alone.
     Refused(u64),
@@ -122,26 +123,26 @@ pub enum Answer {
 }
 
 // Clock milliseconds.
-#[derive(Drop)]
+#[derive(Clone, Copy)]
 pub struct Judged(pub u64);
 
 // A second of the share book, a number of at most 32 bits.
-#[derive(Drop)]
+#[derive(Clone, Copy)]
 pub struct Second(pub u64);
 
 // A bucket number.
-#[derive(Drop)]
+#[derive(Clone, Copy)]
 pub struct Bucket(pub u64);
 
 // How far behind and ahead of a reading a stamp may lie, in milliseconds.
-#[derive(Drop)]
+#[derive(Clone, Copy)]
 pub struct Window {
     pub behind: u64,
     pub ahead: u64,
 }
 
 // One register's settings.
-#[derive(Drop)]
+#[derive(Clone, Copy)]
 pub struct Usable {
     // The window for Feeders.
     pub origin: Window,
@@ -154,7 +155,7 @@ pub struct Usable {
 }
 
 // The share book's settings.
-#[derive(Drop)]
+#[derive(Clone, Copy)]
 pub struct Shares {
     // The most places of a class.
     pub places: u64,
@@ -167,7 +168,7 @@ pub struct Shares {
 }
 
 // The five entry limits.
-#[derive(Drop)]
+#[derive(Clone, Copy)]
 pub struct Limits {
     pub feeder: u64,
     pub feeders: u64,
@@ -177,7 +178,7 @@ pub struct Limits {
 }
 
 // All settings. Those of registers not below `registers` are not read.
-#[derive(Drop)]
+#[derive(Clone, Copy)]
 pub struct Settings {
     pub registers: u64,
     pub shares: Shares,

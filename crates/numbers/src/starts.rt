@@ -10,7 +10,7 @@ use crate::{bounds, codes, layout, spans};
 use model::{Class, Settings, Shares, Usable};
 
 // A register's settings, and where its words lie.
-#[derive(Drop)]
+#[derive(Clone, Copy)]
 pub struct RegisterExtent {
     pub u: Usable,
     pub start: usize,

@@ -1,4 +1,6 @@
 // Opening: every needed word follows from the settings, the limits and the starts. No word is read.
+#![tactic(auto)]
+
 ghost use Rattle.std.specs.Prelude.{◌≡◌, true, ◌<◌, length};
 ghost use Rattle.model.specs.Settings.{settings_fit, words_needed};
 ghost use Rattle.model.specs.Words.{encode_front, state_form};

@@ -1,6 +1,7 @@
 // A place's pairs of second and count, seconds rising, and how they lie in the place's cells: pair k in the cells 2k (its second)
 // and 2k + 1 (its count). Other crates move and clear places as wholes, and read or write no cell by itself; what these functions
 // do is said of lists of pairs.
+#![tactic(auto)]
 
 ghost use Rattle.std.specs.Prelude.{◌+◌, ◌*◌, ◌≤◌, ◌<◌, ◌≡◌, ◌&&◌, ◌++◌, length, drop, eqb};
 ghost use Rattle.runs.specs.Chunks.{flat};
@@ -13,7 +14,7 @@ use numbers::capped::TOP32;
 use runs::moves;
 
 // The pairs that are earlier than a second: how many, and their entries.
-#[derive(Drop)]
+#[derive(Clone, Copy)]
 pub struct Passed {
     pub pairs: usize,
     pub entries: u64,

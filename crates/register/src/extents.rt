@@ -8,14 +8,14 @@ use model::{Class, Usable};
 use numbers::{codes, layout, spans};
 
 // The sizes of a register's rings: the positions of each, and its words.
-#[derive(Drop)]
+#[derive(Clone, Copy)]
 pub struct Rings {
     pub ring: usize,
     pub width: usize,
 }
 
 // The words of a class's ring: from `start` up to `end`, for `ring` positions of at most `slots` slots.
-#[derive(Drop)]
+#[derive(Clone, Copy)]
 pub struct RingExtent {
     pub slots: usize,
     pub ring: usize,

@@ -10,7 +10,7 @@ use model::{Deliverer, Judged, Usable, Verdict};
 use numbers::spans;
 
 // A ticket, the reading with its judging flag, and who delivers it.
-#[derive(Drop)]
+#[derive(Clone, Copy)]
 pub struct Ask {
     pub fp: u64,
     pub stamp: u64,

@@ -1,5 +1,7 @@
 // One register in its own part of the lent words: a heading of 24 words (six kept settings, swept, the published sweep, whether
 // there is a floor, the floor, whether it is pending, 13 spare words), then a ring of generations for each class.
+#![tactic(auto)]
+
 mod extents;
 mod forgetting;
 pub mod heading;

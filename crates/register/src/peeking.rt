@@ -15,7 +15,7 @@ use numbers::{layout, spans};
 
 // What a sweep would do: it would visit the positions of the buckets from `from` up to, not including, `through`, none where both are
 // one, and leave a floor, if `present`. The floor's number is 0 where there is none.
-#[derive(Drop)]
+#[derive(Clone, Copy)]
 pub struct Seen {
     pub from: Bucket,
     pub through: Bucket,
@@ -24,7 +24,7 @@ pub struct Seen {
 }
 
 // The lowest class whose ring holds a ticket, or nobody.
-#[derive(Drop)]
+#[derive(Clone, Copy)]
 pub enum HeldIn {
     Nobody,
     By(Class),

@@ -1,5 +1,7 @@
 // A register's view, from its own part of the lent words: of each held generation, in dump sequence, its bucket, its oldest stamp, its
 // newest stamp and how many fingerprints it holds. Each function that writes does so from a position on and answers the position after.
+#![tactic(auto)]
+
 ghost use Rattle.std.specs.Prelude.{◌≡◌, [], ◌∷◌, ◌+◌, ◌≤◌, length};
 ghost use Rattle.model.specs.RawViews.{register_view};
 ghost use Rattle.register.specs.Words.{RegisterWords, RegisterReads};

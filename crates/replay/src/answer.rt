@@ -7,7 +7,7 @@ use model::Answer;
 use numbers::codes;
 
 // What a line says: the answer to its call, or nothing, since it is no call.
-#[derive(Drop)]
+#[derive(Clone, Copy)]
 pub enum Said {
     Told(Answer),
     Unread,

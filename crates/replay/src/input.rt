@@ -6,7 +6,7 @@ use libc::STDIN_FILENO;
 
 // The bytes from `at` to `have` of the buffer have been read and wait for their turn. The input may have ended, and the line that is being
 // read may be one that the buffer does not hold, of which the rest is passed over.
-#[derive(Drop)]
+#[derive(Clone, Copy)]
 pub struct Waiting {
     pub at: usize,
     pub have: usize,
@@ -110,7 +110,7 @@ fn serve_last(
     serve(text, long, words, kept, next, bytes, lent)
 }
 
-#[derive(Drop)]
+#[derive(Clone, Copy)]
 pub struct Turned {
     pub waiting: Waiting,
     pub lent: u64,

@@ -4,7 +4,7 @@ ghost use Rattle.std.specs.Prelude.{◌≡◌, ◌≤◌, length};
 use decimals::Number;
 
 // A number of a line, and the place behind it and its blank. `ok`: there is a number.
-#[derive(Drop)]
+#[derive(Clone, Copy)]
 pub struct Found {
     pub value: u64,
     pub next: usize,
@@ -12,7 +12,7 @@ pub struct Found {
 }
 
 // How far a line has been read, and how many numbers were stored. `ok`: all of them could be read.
-#[derive(Drop)]
+#[derive(Clone, Copy)]
 pub struct Reading {
     pub next: usize,
     pub count: usize,
@@ -20,7 +20,7 @@ pub struct Reading {
 }
 
 // A line that has been read: its code, and how many bytes it brings. `ok`: it has all its numbers and no more than there is room for.
-#[derive(Drop)]
+#[derive(Clone, Copy)]
 pub struct Line {
     pub code: u64,
     pub filled: usize,

@@ -13,6 +13,8 @@
 //
 // A line of an answer is what an entry point of C gives: 0, or the refusal number, and then the out numbers; of a dump, its length and
 // then its bytes, and of a view how many words it has and then those. A line that is no call is answered by `unread`, which no answer is.
+#![tactic(auto)]
+
 mod answer;
 mod input;
 mod line;

@@ -60,7 +60,7 @@ const SETTINGS: u64 = 102;
 const POKE: u64 = 103;
 
 // What a line said, and how many words are lent from then on.
-#[derive(Drop)]
+#[derive(Clone, Copy)]
 pub struct Ran {
     pub said: Said,
     pub lent: u64,

@@ -13,7 +13,7 @@ use numbers::spans;
 use numbers::starts::RegisterExtent;
 
 // Whether all was held so far, and the word position that comes next.
-#[derive(Drop)]
+#[derive(Clone, Copy)]
 pub struct Done {
     pub whole: bool,
     pub next: usize,

@@ -1,7 +1,7 @@
 // A generation's head, as a dump tells it, and what is counted while its fingerprints are held.
 use model::{Bucket, Class, Second};
 
-#[derive(Drop)]
+#[derive(Clone, Copy)]
 pub struct Head {
     pub class: Class,
     pub bucket: Bucket,
@@ -11,7 +11,7 @@ pub struct Head {
 }
 
 // The draws made for a generation, and whether all of its fingerprints were held so far.
-#[derive(Drop)]
+#[derive(Clone, Copy)]
 pub struct Tally {
     pub draws: usize,
     pub fits: bool,

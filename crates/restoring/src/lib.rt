@@ -1,4 +1,6 @@
 // Restore and resume: a register's dump is read back, in the whole run of words that the settings need.
+#![tactic(auto)]
+
 mod classes;
 mod heads;
 mod holding;

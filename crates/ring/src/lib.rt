@@ -1,5 +1,7 @@
 // A class's ring: for each position a generation, in one run of words. Bucket b is at position b mod ring. A ring is handed
 // over as its words, the most slots of a generation, and the number of its positions.
+#![tactic(auto)]
+
 mod peeking;
 
 ghost use Rattle.std.specs.Prelude.{◌≡◌, ◌≤◌, ◌<◌};

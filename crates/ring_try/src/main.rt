@@ -1,6 +1,8 @@
 // A ring of three positions with at most four slots each: fingerprints are inserted, looked for, dropped and swept, and the words
 // are printed after each step. Where three of four slots are held a new one finds no room, and one that is held does. Damaged words
 // are refused.
+#![tactic(auto)]
+
 ghost use Rattle.std.specs.Prelude.{◌≡◌, true, ◌<◌};
 ghost use Rattle.ring.specs.Ring.{RingWords};
 

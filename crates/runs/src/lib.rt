@@ -1,5 +1,7 @@
 // Runs of words that mean nothing by themselves. Each loop goes over all its words with no branch inside, and a test keeps one
 // value and does not leave early: so the compiler makes vector instructions of it, and of clear_words a memset.
+#![tactic(auto)]
+
 pub mod moves;
 
 ghost use Rattle.std.specs.Prelude.{◌≡◌, length, replicate};

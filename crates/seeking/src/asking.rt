@@ -11,7 +11,7 @@ use register::{Ask, Seen};
 
 // A register by its number and by where it lies, what its sweep would do, a ticket, and the verdict that is wanted. The ticket's stamp is
 // not read.
-#[derive(Drop)]
+#[derive(Clone, Copy)]
 pub struct Quest {
     pub s: Settings,
     pub r: usize,

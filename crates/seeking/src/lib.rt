@@ -1,5 +1,7 @@
 // Seek: the smallest stamp for which `take_batch` would give a wanted verdict, in the whole run of words that the settings need. Nothing is
 // written: the sweep that judge makes is seen once and not made, and each stamp of a short list is then asked about.
+#![tactic(auto)]
+
 mod asking;
 mod tries;
 

@@ -10,7 +10,7 @@ use model::{Bucket, Class};
 use numbers::{capped, codes, spans};
 
 // The least stamp so far that gives the wanted verdict, if one was found.
-#[derive(Drop)]
+#[derive(Clone, Copy)]
 pub struct Best {
     pub found: bool,
     pub stamp: u64,

@@ -1,5 +1,7 @@
 // The public calls. Each brings its settings as 29 words and the words that it may use. A call tries its refusals in their order,
 // 1, 2, 3, 4, 8, 6, 5, 7, and a refusal alters nothing; otherwise it does what the rules say, and leaves what lies past the needed words.
+#![tactic(auto)]
+
 ghost use Rattle.std.specs.Prelude.{◌≡◌, ◌*◌, ◌≤◌, length};
 ghost use Rattle.model.specs.Calls.{judged, judged_batch, taken, taken_batch, On, Open, Close, Expire, SetLimits, HeldBy, ClassTotals, Begin, Sweep, ContainsHash, DumpTo, Restore, Resume, Floor, Pending, SweptBucket, ViewRegister, ViewDeliverer, yes_no, stamp_answer, reply};
 ghost use Rattle.register.specs.Words.{RegisterWords};
@@ -16,7 +18,7 @@ use seeking::Best;
 use vet::Entry;
 
 // Where a call on one register finds its words: the first refusal that was met, or 0, and then the register's settings and part.
-#[derive(Drop)]
+#[derive(Clone, Copy)]
 pub struct RegisterEntry {
     pub refusal: u64,
     pub u: Usable,
@@ -25,14 +27,14 @@ pub struct RegisterEntry {
 }
 
 // A ticket's numbers: whether its codes are listed, and what it asks.
-#[derive(Drop)]
+#[derive(Clone, Copy)]
 pub struct Ticket {
     pub listed: bool,
     pub ask: Ask,
 }
 
 // The same of a call that reads one class of the share book.
-#[derive(Drop)]
+#[derive(Clone, Copy)]
 pub struct ClassEntry {
     pub refusal: u64,
     pub shares: Shares,

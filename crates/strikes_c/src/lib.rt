@@ -1,5 +1,7 @@
 // The calls for C, each under its own name. A slice is a pointer and a length, and an out number a pointer. Each returns 0, or the refusal
 // number, and a refusal alters no word, no byte and no out number. Nothing needs to be vetted before a call. include/strikes.h declares them.
+#![tactic(auto)]
+
 mod sent;
 
 ghost use Rattle.std.specs.Prelude.{◌≡◌, [], ◌∷◌};

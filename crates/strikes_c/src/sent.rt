@@ -6,7 +6,7 @@ use model::{Answer, Reason};
 use numbers::codes;
 
 // An answer as it goes out: the number returned, how many values there are, and the values. Those past the count are 0.
-#[derive(Drop)]
+#[derive(Clone, Copy)]
 pub struct Sent {
     pub status: u64,
     pub count: u64,

@@ -1,5 +1,7 @@
 // Take: a ticket is judged, and a new one is drawn from its deliverer's share and struck, in the whole run of words that the
 // settings need: the front, the share book and the registers.
+#![tactic(auto)]
+
 mod explaining;
 mod on_register;
 mod shares;

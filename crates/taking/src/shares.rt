@@ -13,7 +13,7 @@ use model::{Deliverer, Draw, Limits, Second, Settings, Shares};
 use numbers::{codes, layout, starts};
 
 // Where a draw would be entered, and what the book says to it.
-#[derive(Drop)]
+#[derive(Clone, Copy)]
 pub struct Share {
     pub spot: Spot,
     pub draw: Draw,

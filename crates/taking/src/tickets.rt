@@ -6,7 +6,7 @@ use model::{Bucket, Deliverer, Second, Usable};
 use numbers::spans;
 use register::Ask;
 
-#[derive(Drop)]
+#[derive(Clone, Copy)]
 pub struct Ticket {
     pub who: Deliverer,
     // The fingerprint as it is read, and the stamp.

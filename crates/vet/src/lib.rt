@@ -1,6 +1,8 @@
 // What may be refused before a call does anything: a function for each stage, in the order in which refusals are tried. Settings (1)
 // and words enough (2) here, limits, starts and codes (1) in `handed`, words sound (3) in `sound`.
 // None writes, and nothing above this crate tests settings or soundness again.
+#![tactic(auto)]
+
 ghost use Rattle.std.specs.Prelude.{◌≡◌};
 ghost use Rattle.vet.specs.Vetted.{unfit_alone, vetted};
 ghost use Rattle.vet.specs.Entries.{Shut, Enters, EntersWithin};
@@ -14,7 +16,7 @@ pub use handed::{limits_fit, starts_fit, ticket_fits};
 
 // What a call enters with: the first refusal that was met, or 0, and then the words that its settings need. The settings themselves
 // are read by whoever needs them: 29 numbers by value would cost more than reading them again.
-#[derive(Drop)]
+#[derive(Clone, Copy)]
 pub struct Entry {
     pub refusal: u64,
     pub need: usize,
