@@ -9,6 +9,7 @@ use Rattle.model.specs.First.{Rule, first_of, First, here, later, NoneMet, nothi
 module _ {A : Type 0} where
   pub first_is : (other n : A) (xs : List (Rule A)) → First n xs → first_of other xs ≡ n
   unfolding first_of
+  first_is other n [] first = elim first [ ]
   first_is other n (x ∷ xs) (here met is) = rw met is
   first_is other n (x ∷ xs) (later not_met first) = rw not_met (first_is other n xs first)
 

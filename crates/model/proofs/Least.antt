@@ -75,6 +75,7 @@ module _ (meets : ℕ → Bool) where
   -- no number of the list that meets the test is less than what was found
   pub least_reaches : (c : ℕ) (xs : List ℕ) (best : Option ℕ) → OneOf c xs → meets c ≡ true → UpTo c (least_from meets xs best)
   unfolding least_from
+  least_reaches c [] best one m = elim one [ ]
   least_reaches c (x ∷ xs) best first m = least_keeps c xs (better meets x best) (better_reaches x best m)
   least_reaches c (x ∷ xs) best (further o) m = least_reaches c xs (better meets x best) o m
 

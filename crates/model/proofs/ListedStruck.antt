@@ -89,6 +89,7 @@ module _ (u : Usable) (b : Shares) (small : u.slots ≤ 1_024) (some_pairs : 1 �
     all_listed : (p : ℕ) (ps : List ℕ) (h : Holding) → OneOf p ps → Fine u b h.register h.book → (hold_all u b c d ps h).fits ≡ true
         → Strikes p (hold_all u b c d ps h).register
     unfolding hold_all
+    all_listed p [] h one ok w = elim one [ ]
     all_listed p (q ∷ ps) h first ok w =
         let fine = one_fine u b small some_pairs c d p h ok in
         all_safe u b small some_pairs d.bucket (as_read p) d.newest (read_positive p) c c d ps (hold_one u b c d p h) fine
@@ -106,6 +107,7 @@ module _ (u : Usable) (b : Shares) (small : u.slots ≤ 1_024) (some_pairs : 1 �
   class_listed : (c : Class) (d : Dumped) (p : ℕ) (ds : List Dumped) (r : Restoring) → OneOf d ds → OneOf p d.prints → Fine u b r.register r.book
       → Strikes c d p (restore_class u b c ds r).register
   unfolding restore_class
+  class_listed c d p [] r one i ok = elim one [ ]
   class_listed c d p (x ∷ ds) r first i ok =
       let start = begun_fine u b small some_pairs r ok in
       class_safe u b small some_pairs d.bucket (as_read p) d.newest (read_positive p) c c ds (settled u c d r.whole (tried u b c d r))

@@ -43,6 +43,7 @@ is_first n xs h e = by_named (is_named 0 n xs e)
     by_named (by_none none is) = absurd (omega arith)
 
 first_pos : (n : ℕ) (xs : List Refusal) → Numbered xs → First n xs → 0 < n
+first_pos n [] numbered first = elim first [ ]
 first_pos n (x ∷ xs) (one_more h rest) (here met is) = omega arith
 first_pos n (x ∷ xs) (one_more h rest) (later not_met first) = first_pos n xs rest first
 

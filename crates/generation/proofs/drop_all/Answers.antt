@@ -1,0 +1,14 @@
+use Rattle.generation.proofs.Dropping.{drops_nothing, drops_all}
+use Rattle.generation.proofs.drop_all.Goals as goal
+
+pub returns-then-head-eq0 : goal.returns-then-head-eq0
+returns-then-head-eq0 c = drops_nothing c.args.part.now _ c.of-head.ensures c.if-head-eq0.true
+
+pub returns : goal.returns
+returns c =
+    let h = c.of-head in
+    let some = c.if-head-eq0.false in
+    let cleared = c.clear_words.ensures in
+    let o = c.before.before.before.before.«open».ensures in
+    rw c.lead.ensures
+    (drops_all c.args.part.now h.result h.ensures some _ cleared _ (rw o))

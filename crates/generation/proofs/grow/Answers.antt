@@ -1,0 +1,17 @@
+use native.Mathlib.Omega.{arith}
+use lib.ListN.{length-take, length-drop}
+use Rattle.generation.proofs.Inserting.{grows_asks, grows_bounded, grows}
+use Rattle.generation.proofs.grow.Goals as goal
+
+pub regrow-requires : goal.regrow-requires
+regrow-requires c =
+    let a = grows_asks c.args.part.now _ c.requires.0 c.requires.1 _ c.slots_for-wanted.ensures in
+    ((a.0, simp (length-take, length-drop) (omega arith)), omega arith)
+
+pub returns : goal.returns
+returns c =
+    let w = c.slots_for-wanted.ensures in
+    let g = c.regrow in (
+      grows_bounded c.args.part.now _ c.requires.0 c.requires.1 _ w _ g.ensures g.auto.0,
+      grows c.args.part.now _ c.requires.0 c.requires.1 _ w _ g.ensures,
+    )

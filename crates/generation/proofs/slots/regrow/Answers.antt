@@ -1,0 +1,19 @@
+use native.Mathlib.Omega.{arith}
+use mathlib.Core.Path.{◌∙◌}
+use Rattle.generation.proofs.Putting.{grown_not, grown_on}
+use Rattle.generation.proofs.slots.regrow.Goals as goal
+
+pub returns-then-wanted-n : goal.returns-then-wanted-n
+returns-then-wanted-n c = let a = c.args in grown_not a.slots.now a.n a.wanted (omega arith) c.if-wanted-n.true
+
+pub returns-then-n-le64 : goal.returns-then-n-le64
+returns-then-n-le64 c =
+    let a = c.args in
+    let more = c.if-wanted-n.false in
+    c.rebuild_few.ensures ∙ grown_on a.slots.now a.n a.wanted (omega arith) more
+
+pub returns : goal.returns
+returns c =
+    let a = c.args in
+    let more = c.if-wanted-n.false in
+    c.rebuild_most.ensures ∙ grown_on a.slots.now a.n a.wanted (omega arith) more

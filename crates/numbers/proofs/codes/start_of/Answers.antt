@@ -1,0 +1,15 @@
+use Rattle.model.specs.Codes.{start_of}
+use borrow.Author.Tests.{eq-eqb, ne_eqb}
+use Rattle.numbers.proofs.codes.start_of.Goals as goal
+
+pub returns-then-code-eq0 : goal.returns-then-code-eq0
+unfolding start_of
+returns-then-code-eq0 c = simp (eq-eqb _ _ c.if-code-eq0.true)
+
+pub returns-then-code-eq1 : goal.returns-then-code-eq1
+unfolding start_of
+returns-then-code-eq1 c = simp (ne_eqb _ _ c.if-code-eq0.false, eq-eqb _ _ c.if-code-eq1.true)
+
+pub returns : goal.returns
+unfolding start_of
+returns c = simp (ne_eqb _ _ c.if-code-eq0.false, ne_eqb _ _ c.if-code-eq1.false)

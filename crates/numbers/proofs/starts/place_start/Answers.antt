@@ -1,0 +1,17 @@
+use Rattle.numbers.proofs.Placing.{places_few}
+use Prim.Native.Nat.{ℕ, ◌+◌, ◌*◌}
+use mathlib.Core.Path.{ap}
+use native.Mathlib.Omega.{arith}
+use Rattle.model.specs.Widths.{class_head}
+use Rattle.numbers.proofs.starts.place_start.Goals as goal
+
+pub overflow_mul-result : goal.overflow_mul-result
+overflow_mul-result c = let k = places_few c.args.i _ c.requires.1 c.place_width-place.ensures.1 in omega arith
+
+pub overflow_add-result : goal.overflow_add-result
+overflow_add-result c = let k = places_few c.args.i _ c.requires.1 c.place_width-place.ensures.1 in omega arith
+
+pub returns : goal.returns
+returns c =
+    let k = places_few c.args.i _ c.requires.1 c.place_width-place.ensures.1 in
+    (ap (λ (n : ℕ). class_head + c.args.i * n) c.place_width-place.ensures.0, omega arith)

@@ -1,0 +1,10 @@
+use Prim.Native.Nat.{◌-◌}
+use Rattle.pairs.proofs.PairWords.{Walked}
+use Rattle.model.specs.Book.{entries}
+use Rattle.pairs.proofs.earlier.Given as goal
+
+abbrev pub invariant-loop-i : goal.invariant-loop-i
+invariant-loop-i l = Walked l.n l.second l.cells l.i l.entries
+
+abbrev pub decreases-loop-i : goal.decreases-loop-i
+decreases-loop-i l = l.n - l.i

@@ -1,0 +1,6 @@
+use mathlib.Core.Path.{refl}
+use Rattle.register.proofs.HeadWords.{pending_reads}
+use Rattle.register.proofs.heading.is_pending.Goals as goal
+
+pub returns : goal.returns
+returns c = (refl, λ u. pending_reads u _)

@@ -1,0 +1,18 @@
+use Rattle.register.proofs.Verdicts.{print_positive}
+use Rattle.register.proofs.Foreseen.{rule_pending, rule_flag, rule_held, rule_late}
+use Rattle.register.proofs.peeking.judge_after.Goals as goal
+
+pub returns-then-is_pending : goal.returns-then-is_pending
+returns-then-is_pending c = search rule_pending
+
+pub returns-then-not-ask : goal.returns-then-not-ask
+returns-then-not-ask c = search rule_flag
+
+pub holder_after-holder-requires : goal.holder_after-holder-requires
+holder_after-holder-requires c = search print_positive
+
+pub returns-in-By : goal.returns-in-By
+returns-in-By c = search rule_held
+
+pub returns-in-Nobody : goal.returns-in-Nobody
+returns-in-Nobody c = search rule_late

@@ -1,0 +1,18 @@
+use mathlib.Core.Path.{refl}
+use Rattle.ring.proofs.Foreseen.{peek_start, peek_on, peek_end}
+use Rattle.ring.proofs.Positions.{bucket_reads}
+use Rattle.ring.proofs.peeking.newest_passed.Goals as goal
+
+pub loop-b-init : goal.loop-b-init
+loop-b-init c = peek_start _ _ _ _ _
+
+pub loop-b-preserved : goal.loop-b-preserved
+loop-b-preserved c =
+    let a = c.args in
+    let p = c.position-at.ensures in
+    let one = c.newest_passed-more.ensures a.slots a.ring _ in
+    let t = bucket_reads _ _ _ p.below _ _ c.start_of-a.ensures refl _ p.is one in
+    peek_on _ _ _ _ _ _ _ c.loop-b.invariant c.loop-b-test.true _ t _ c.newest-went.ensures
+
+pub returns : goal.returns
+returns c = search peek_end

@@ -1,0 +1,11 @@
+use Prim.Native.Nat.{ℕ}
+use mathlib.Core.Path.{refl}
+use Rattle.model.specs.Generation.{as_read}
+use Rattle.model.specs.Register.{any_class, holds_any}
+use Rattle.model.specs.Calls.{ContainsHash, yes_no, deed_fits, deed_refusals, done_on}
+use Rattle.strikes.proofs.Deeds.{Tells}
+use Rattle.strikes.proofs.contains_hash.Goals as goal
+
+tells : (fp : ℕ) → Tells (ContainsHash fp) yes_no (λ u reg. any_class (holds_any (as_read fp)) reg.rings)
+unfolding deed_fits deed_refusals done_on
+tells fp = record { fits = refl; never = λ reg. refl; says = λ s r t. refl }

@@ -1,0 +1,8 @@
+use mathlib.Core.Path.{refl}
+use Rattle.model.specs.Calls.{Floor, floor_answer, deed_fits, deed_refusals, done_on}
+use Rattle.strikes.proofs.Deeds.{Tells}
+use Rattle.strikes.proofs.floor.Goals as goal
+
+tells : Tells Floor (λ v. v) (λ u reg. floor_answer reg.floor)
+unfolding deed_fits deed_refusals done_on
+tells = record { fits = refl; never = λ reg. refl; says = λ s r t. refl }

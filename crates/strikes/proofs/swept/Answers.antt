@@ -1,0 +1,9 @@
+use mathlib.Core.Path.{refl}
+use Rattle.model.specs.Calls.{SweptBucket, deed_fits, deed_refusals, done_on}
+use Rattle.register.specs.Rules.{swept_answer}
+use Rattle.strikes.proofs.Deeds.{Tells}
+use Rattle.strikes.proofs.swept.Goals as goal
+
+tells : Tells SweptBucket (λ v. v) swept_answer
+unfolding deed_fits deed_refusals done_on
+tells = record { fits = refl; never = λ reg. refl; says = λ s r t. refl }
