@@ -7,4 +7,8 @@ pub returns : goal.returns
 returns c =
     let copied = c.copy_words.ensures in
     let sorts = c.sort.ensures in
-    (c.neighbours_differ.ensures ∙ told _ _ sorts.0 ∙ ap distinct copied, (rw copied at sorts.0, rw copied at sorts.1))
+    record {
+      value = c.neighbours_differ.ensures ∙ told _ _ sorts.sorts ∙ ap distinct copied;
+      sorts = rw copied at sorts.sorts;
+      spare_after = rw copied at sorts.spare_after;
+    }

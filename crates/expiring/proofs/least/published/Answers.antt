@@ -8,4 +8,4 @@ published_sweep-requires c = (register_asks c.args.s c.args.r c.requires.1 _ c.r
 pub returns : goal.returns
 returns c =
     let register-extent = c.register_extent-at in
-    published_reads c.args.s c.args.r c.requires.1 _ register-extent.ensures c.args.run.now _ c.published_sweep.ensures.1
+    published_reads c.args.s c.args.r c.requires.1 _ register-extent.ensures c.args.run.now _ c.published_sweep.ensures.register_reads

@@ -11,5 +11,5 @@ pub returns : goal.returns
 returns c =
     let a = c.args in
     let some = c.if-floor-eq0.false in
-    let e = dumped_some a.floor a.part.now _ some c.raise_floor.ensures.0 in
+    let e = dumped_some a.floor a.part.now _ some c.raise_floor.ensures.part_after in
     (e, λ u. dumped_turns a.floor a.part.now u _ e)

@@ -6,13 +6,13 @@ use Rattle.register.proofs.heading.begin.Goals as goal
 pub returns-then-not-is_pending : goal.returns-then-not-is_pending
 returns-then-not-is_pending c =
     let a = c.args in
-    let e = begin_already a.number a.part.now (sym c.is_pending.ensures.0 ∙ not-true _ c.if-not-is_pending.true) in
+    let e = begin_already a.number a.part.now (sym c.is_pending.ensures.value ∙ not-true _ c.if-not-is_pending.true) in
     (e, λ u. begin_turns a.number a.part.now u _ _ e)
 
 pub returns : goal.returns
 returns c =
     let a = c.args in
-    let pending = c.is_pending.ensures.0 in
+    let pending = c.is_pending.ensures.value in
     let left = c.if-not-is_pending.false in
-    let e = begin_begun a.number a.part.now _ (sym pending ∙ not-false _ left) c.raise_floor.ensures.0 in
+    let e = begin_begun a.number a.part.now _ (sym pending ∙ not-false _ left) c.raise_floor.ensures.part_after in
     (e, λ u. begin_turns a.number a.part.now u _ _ e)

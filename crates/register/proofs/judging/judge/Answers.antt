@@ -10,5 +10,5 @@ returns-then-pending-ask c =
 
 pub returns : goal.returns
 returns c =
-    let t = judged_turns c.args.u (asked_by c.args.ask) _ _ (c.is_pending-pending.ensures.1 c.args.u) _ _ c.if-pending-ask.false c.sweep.ensures.1 c.verdict.ensures in
+    let t = judged_turns c.args.u (asked_by c.args.ask) _ _ (c.is_pending-pending.ensures.register_reads c.args.u) _ _ c.if-pending-ask.false c.sweep.ensures.1 c.verdict.ensures in
     (c.sweep.ensures.0, t)

@@ -3,12 +3,12 @@ use Rattle.register.proofs.sweeping.sweep.Goals as goal
 
 pub returns-then-is_pending : goal.returns-then-is_pending
 returns-then-is_pending c =
-    let t = sweep_idle c.args.u c.args.reading.0 _ _ (c.is_pending.ensures.1 c.args.u) c.if-is_pending.true in
+    let t = sweep_idle c.args.u c.args.reading.0 _ _ (c.is_pending.ensures.register_reads c.args.u) c.if-is_pending.true in
     (swept_words c.args.u c.args.reading.0 _ _ t c.requires, t)
 
 pub returns-then-through-swept : goal.returns-then-through-swept
 returns-then-through-swept c =
-    let t = sweep_same c.args.u c.args.reading.0 c.args.part.now _ _ (c.is_pending.ensures.1 c.args.u) c.if-is_pending.false
+    let t = sweep_same c.args.u c.args.reading.0 c.args.part.now _ _ (c.is_pending.ensures.register_reads c.args.u) c.if-is_pending.false
     c.through_of-through.ensures c.if-through-swept.true in
     (swept_words c.args.u c.args.reading.0 _ _ t c.requires, t)
 
@@ -16,13 +16,13 @@ pub returns-then-through-swept-2 : goal.returns-then-through-swept-2
 returns-then-through-swept-2 c =
     let if3 = c.if-through-swept-2 in
     let set-swept = c.set_swept in
-    let t = sweep_back c.args.u c.args.reading.0 c.args.part.now _ _ _ (c.is_pending.ensures.1 c.args.u) c.if-is_pending.false
+    let t = sweep_back c.args.u c.args.reading.0 c.args.part.now _ _ _ (c.is_pending.ensures.register_reads c.args.u) c.if-is_pending.false
     c.through_of-through.ensures if3.true set-swept.ensures.1 in
     (swept_words c.args.u c.args.reading.0 _ _ t c.requires, t)
 
 pub returns : goal.returns
 returns c =
     let sweep_rings = c.sweep_rings in
-    let t = sweep_on c.args.u c.args.reading.0 c.args.part.now _ _ _ _ (c.is_pending.ensures.1 c.args.u) c.if-is_pending.false
+    let t = sweep_on c.args.u c.args.reading.0 c.args.part.now _ _ _ _ (c.is_pending.ensures.register_reads c.args.u) c.if-is_pending.false
     c.through_of-through.ensures c.if-through-swept-2.false (rw (← c.rings_of-sizes.ensures.ring) c.sweep_from-from.ensures) sweep_rings.ensures in
     (swept_words c.args.u c.args.reading.0 _ _ t c.requires, t)

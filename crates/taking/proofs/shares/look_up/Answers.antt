@@ -21,7 +21,7 @@ look-requires c =
     let end = ap (λ (n : ℕ). c.class_start-a.result + n) c.class_width.ensures.0 in (
       class_asks c.args.s (class_of c.args.ticket.who) _ _ start end c.args.run.now c.requires,
       limits_are_fit c.args.s c.args.run.now c.requires _ _
-          (c.kept_limits-limits.ensures.1 c.args.s) (c.is_closed-closed.ensures.1 c.args.s),
+          (c.kept_limits-limits.ensures.reads c.args.s) (c.is_closed-closed.ensures.reads c.args.s),
     )
 
 pub returns : goal.returns
@@ -30,5 +30,5 @@ returns c =
     let k = c.class_of.ensures in
     let start = c.class_start-a.ensures.0 ∙ ap (λ (z : Class). class_start c.args.s z) k in
     let end = ap (λ (n : ℕ). c.class_start-a.result + n) class_width.ensures.0 in
-    look_reads c.args.s c.args.ticket c.args.run.now c.requires _ _ (c.kept_limits-limits.ensures.1 c.args.s)
-    (c.is_closed-closed.ensures.1 c.args.s) _ _ start end _ c.look.ensures
+    look_reads c.args.s c.args.ticket c.args.run.now c.requires _ _ (c.kept_limits-limits.ensures.reads c.args.s)
+    (c.is_closed-closed.ensures.reads c.args.s) _ _ start end _ c.look.ensures
