@@ -1,5 +1,4 @@
 use Rattle.book.proofs.Entering.{found_of, refused, roomy_of, granted_turns}
-use borrow.Author.Tests.{not-true, not-false}
 use mathlib.Core.Path.{sym, ◌∙◌}
 use Rattle.book.proofs.take.Goals as goal
 
@@ -16,7 +15,7 @@ returns-then-not-is_granted c =
     let find = c.find-spot in
     let draw = c.draw-answer in
     refused s.shares s.who s.second.0 s.part.now pre.0 _ find.ensures s.limits s.closed _ draw.ensures
-    (sym c.is_granted.ensures ∙ not-true _ c.if-not-is_granted.true)
+    (sym c.is_granted.ensures ∙ c.if-not-is_granted.true)
 
 pub enter-requires : goal.enter-requires
 enter-requires c =
@@ -26,7 +25,7 @@ enter-requires c =
     let draw = c.draw-answer in
     let is-granted = c.is_granted in
     roomy_of s.shares s.who s.second.0 s.part.now pre.0 _ find.ensures s.limits s.closed _ draw.ensures
-    (sym is-granted.ensures ∙ not-false _ c.if-not-is_granted.false)
+    (sym is-granted.ensures ∙ c.if-not-is_granted.false)
 
 pub returns : goal.returns
 returns c =
@@ -38,4 +37,4 @@ returns c =
     let if1 = c.if-not-is_granted in
     let enter = c.enter in
     granted_turns s.shares s.who s.second.0 s.part.now pre.0 _ find.ensures s.limits s.closed _ draw.ensures
-    (sym is-granted.ensures ∙ not-false _ if1.false) _ enter.ensures
+    (sym is-granted.ensures ∙ if1.false) _ enter.ensures

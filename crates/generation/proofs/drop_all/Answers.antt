@@ -9,6 +9,6 @@ returns c =
     let h = c.of-head in
     let some = c.if-head-eq0.false in
     let cleared = c.clear_words.ensures in
-    let o = c.before.before.before.before.«open».ensures in
+    let o = c.open-next.ensures in
     rw c.lead.ensures
     (drops_all c.args.part.now h.result h.ensures some _ cleared _ (rw o))

@@ -12,6 +12,6 @@ pub returns : goal.returns
 returns c =
     let w = c.slots_for-wanted.ensures in
     let g = c.regrow in (
-      grows_bounded c.args.part.now _ c.requires.0 c.requires.1 _ w _ g.ensures g.auto.0,
+      grows_bounded c.args.part.now _ c.requires.0 c.requires.1 _ w _ g.ensures g.auto.slots,
       grows c.args.part.now _ c.requires.0 c.requires.1 _ w _ g.ensures,
     )

@@ -1,5 +1,4 @@
 -- Another number of words is refused before a setting is read.
-use borrow.Author.Tests.{not-true, not-false}
 use mathlib.Core.Path.{sym, ◌∙◌}
 use Rattle.vet.proofs.Entering.{other_width, out_of_bounds, in_bounds}
 use Rattle.vet.proofs.settings_entry.Goals as goal
@@ -8,10 +7,10 @@ pub returns-then-settings-ne-SETTINGS : goal.returns-then-settings-ne-SETTINGS
 returns-then-settings-ne-SETTINGS c = search other_width
 
 pub returns-then-not-settings_fit : goal.returns-then-not-settings_fit
-returns-then-not-settings_fit c = search (out_of_bounds, not-true)
+returns-then-not-settings_fit c = search out_of_bounds
 
 pub needed-requires : goal.needed-requires
-needed-requires c = sym c.settings_fit.ensures ∙ not-false _ c.if-not-settings_fit.false
+needed-requires c = sym c.settings_fit.ensures ∙ c.if-not-settings_fit.false
 
 pub returns : goal.returns
-returns c = search (in_bounds, not-false)
+returns c = search in_bounds

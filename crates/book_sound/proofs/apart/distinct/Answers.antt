@@ -1,6 +1,5 @@
 use mathlib.Core.Path.{refl}
 use native.Mathlib.Omega.{arith}
-use borrow.Author.Tests.{not-true, not-false}
 use Rattle.numbers.proofs.Placing.{ends_at}
 use Rattle.book_sound.proofs.Twice.{read_past, apart_none, apart_met, apart_on}
 use Rattle.book_sound.proofs.PlaceStarts.{read_none, read_one}
@@ -17,7 +16,7 @@ returns-then-not-used c =
     let s = c.start_of-a.ensures in
     let w = ends_at _ c.place_width-width.ensures.0 in
     apart_none p.shares p.class p.body.now l.i l.invariant
-    (read_none p.shares p.class p.body.now l.i _ _ s w h _ c.in_use-used.ensures (not-true _ c.if-not-used.true))
+    (read_none p.shares p.class p.body.now l.i _ _ s w h _ c.in_use-used.ensures c.if-not-used.true)
 
 pub returns-then-twice : goal.returns-then-twice
 returns-then-twice c =
@@ -27,7 +26,7 @@ returns-then-twice c =
     let s = c.start_of-a.ensures in
     let w = ends_at _ c.place_width-width.ensures.0 in
     let r = read_one p.shares p.class p.body.now l.i _ _ s w h _ c.in_use-used.ensures
-    (not-false _ c.if-not-used.false) in
+    c.if-not-used.false in
     apart_met p.shares p.class p.body.now l.i l.invariant _ r _ c.has_from-twice.ensures c.if-twice.true
 
 pub loop-i-preserved : goal.loop-i-preserved
@@ -38,7 +37,7 @@ loop-i-preserved c =
     let s = c.start_of-a.ensures in
     let w = ends_at _ c.place_width-width.ensures.0 in
     let r = read_one p.shares p.class p.body.now l.i _ _ s w h _ c.in_use-used.ensures
-    (not-false _ c.if-not-used.false) in
+    c.if-not-used.false in
     apart_on p.shares p.class p.body.now l.i l.invariant _ r _ c.has_from-twice.ensures c.if-twice.false h
 
 pub returns : goal.returns

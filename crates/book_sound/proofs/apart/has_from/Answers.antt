@@ -1,6 +1,5 @@
 use mathlib.Core.Path.{refl}
 use Rattle.model.specs.BookWords.{read_who}
-use borrow.Author.Tests.{not-true, not-false}
 use Rattle.numbers.proofs.Placing.{ends_at}
 use Rattle.book_sound.proofs.Twice.{read_past, seeks_none, seeks_hit, seeks_on}
 use Rattle.book_sound.proofs.PlaceStarts.{read_none, read_one}
@@ -18,7 +17,7 @@ returns-then-not-used c =
     let w = ends_at _ c.place_width-width.ensures.0 in
     let x = read_who p.class p.kind p.number in
     seeks_none p.shares p.class p.body.now x p.from l.i l.invariant
-    (read_none p.shares p.class p.body.now l.i _ _ s w h _ c.in_use-used.ensures (not-true _ c.if-not-used.true))
+    (read_none p.shares p.class p.body.now l.i _ _ s w h _ c.in_use-used.ensures c.if-not-used.true)
 
 pub returns-then-same : goal.returns-then-same
 returns-then-same c =
@@ -29,7 +28,7 @@ returns-then-same c =
     let w = ends_at _ c.place_width-width.ensures.0 in
     let x = read_who p.class p.kind p.number in
     let r = read_one p.shares p.class p.body.now l.i _ _ s w h _ c.in_use-used.ensures
-    (not-false _ c.if-not-used.false) in
+    c.if-not-used.false in
     seeks_hit p.shares p.class p.body.now x p.from l.i l.invariant _ r _ c.same_who-same.ensures c.if-same.true
 
 pub loop-i-preserved : goal.loop-i-preserved
@@ -41,7 +40,7 @@ loop-i-preserved c =
     let w = ends_at _ c.place_width-width.ensures.0 in
     let x = read_who p.class p.kind p.number in
     let r = read_one p.shares p.class p.body.now l.i _ _ s w h _ c.in_use-used.ensures
-    (not-false _ c.if-not-used.false) in
+    c.if-not-used.false in
     seeks_on p.shares p.class p.body.now x p.from l.i l.invariant _ r _ c.same_who-same.ensures c.if-same.false h
 
 pub returns : goal.returns

@@ -1,5 +1,4 @@
 use native.Mathlib.Omega.{arith}
-use borrow.Author.Tests.{not-true, not-false}
 use Rattle.numbers.proofs.Placing.{ends_at}
 use Rattle.book_sound.proofs.Sums.{adds_all, adds_end, adds_stop, adds_not, adds_on}
 use Rattle.book_sound.proofs.places.places_sound.Goals as goal
@@ -15,7 +14,7 @@ returns-then-not-used c =
     let s = c.start_of-a.ensures in
     let w = ends_at _ c.place_width-width.ensures.0 in
     adds_stop p.shares p.class p.body.now p.entries p.holders p.units l.sum l.cost l.i l.invariant _ _ s w h _
-    c.in_use-used.ensures (not-true _ c.if-not-used.true) _ c.zeros_only-rest.ensures _ c.agree-same.ensures
+    c.in_use-used.ensures c.if-not-used.true _ c.zeros_only-rest.ensures _ c.agree-same.ensures
 
 pub returns-then-not-sound : goal.returns-then-not-sound
 returns-then-not-sound c =
@@ -25,7 +24,7 @@ returns-then-not-sound c =
     let s = c.start_of-a.ensures in
     let w = ends_at _ c.place_width-width.ensures.0 in
     adds_not p.shares p.class p.body.now p.entries p.holders p.units l.sum l.cost l.i l.invariant _ _ s w h _
-    c.in_use-used.ensures (not-false _ c.if-not-used.false) _ c.place_sound-sound.ensures (not-true _ c.if-not-sound.true)
+    c.in_use-used.ensures c.if-not-used.false _ c.place_sound-sound.ensures c.if-not-sound.true
 
 pub overflow_add-sum : goal.overflow_add-sum
 overflow_add-sum c =
@@ -35,8 +34,8 @@ overflow_add-sum c =
     let s = c.start_of-a.ensures in
     let w = ends_at _ c.place_width-width.ensures.0 in
     let k = adds_on p.shares p.class p.body.now p.entries p.holders p.units l.sum l.cost l.i l.invariant _ _ s w h _
-    c.in_use-used.ensures (not-false _ c.if-not-used.false) _
-    c.place_sound-sound.ensures (not-false _ c.if-not-sound.false) _ c.units_of-place.ensures.0 c.units_of-place.ensures.1 in
+    c.in_use-used.ensures c.if-not-used.false _
+    c.place_sound-sound.ensures c.if-not-sound.false _ c.units_of-place.ensures.0 c.units_of-place.ensures.1 in
     let x = k.small in
     let y = k.low in
     let z = k.within in
@@ -50,8 +49,8 @@ overflow_add-cost c =
     let s = c.start_of-a.ensures in
     let w = ends_at _ c.place_width-width.ensures.0 in
     let k = adds_on p.shares p.class p.body.now p.entries p.holders p.units l.sum l.cost l.i l.invariant _ _ s w h _
-    c.in_use-used.ensures (not-false _ c.if-not-used.false) _
-    c.place_sound-sound.ensures (not-false _ c.if-not-sound.false) _ c.units_of-place.ensures.0 c.units_of-place.ensures.1 in
+    c.in_use-used.ensures c.if-not-used.false _
+    c.place_sound-sound.ensures c.if-not-sound.false _ c.units_of-place.ensures.0 c.units_of-place.ensures.1 in
     let x = k.small in
     let y = k.low in
     let z = k.within in
@@ -65,8 +64,8 @@ overflow_add-cost-in-loop-i c =
     let s = c.start_of-a.ensures in
     let w = ends_at _ c.place_width-width.ensures.0 in
     let k = adds_on p.shares p.class p.body.now p.entries p.holders p.units l.sum l.cost l.i l.invariant _ _ s w h _
-    c.in_use-used.ensures (not-false _ c.if-not-used.false) _
-    c.place_sound-sound.ensures (not-false _ c.if-not-sound.false) _ c.units_of-place.ensures.0 c.units_of-place.ensures.1 in
+    c.in_use-used.ensures c.if-not-used.false _
+    c.place_sound-sound.ensures c.if-not-sound.false _ c.units_of-place.ensures.0 c.units_of-place.ensures.1 in
     let x = k.small in
     let y = k.low in
     let z = k.within in
@@ -80,8 +79,8 @@ loop-i-preserved c =
     let s = c.start_of-a.ensures in
     let w = ends_at _ c.place_width-width.ensures.0 in
     adds_on p.shares p.class p.body.now p.entries p.holders p.units l.sum l.cost l.i l.invariant _ _ s w h _
-    c.in_use-used.ensures (not-false _ c.if-not-used.false) _
-    c.place_sound-sound.ensures (not-false _ c.if-not-sound.false) _ c.units_of-place.ensures.0 c.units_of-place.ensures.1
+    c.in_use-used.ensures c.if-not-used.false _
+    c.place_sound-sound.ensures c.if-not-sound.false _ c.units_of-place.ensures.0 c.units_of-place.ensures.1
 
 pub returns : goal.returns
 returns c =

@@ -11,7 +11,7 @@ loop-i-preserved c =
     let l = c.loop-i in
     let old = c.args.old.now in
     let p = c.put_again in
-    (p.auto.0 ∙ l.invariant.0, omega arith, rw p.ensures (sym (refill_on old l.slots l.i (omega arith)) ∙ l.invariant.2))
+    (p.auto.slots ∙ l.invariant.0, omega arith, rw p.ensures (sym (refill_on old l.slots l.i (omega arith)) ∙ l.invariant.2))
 
 pub returns : goal.returns
 returns c =

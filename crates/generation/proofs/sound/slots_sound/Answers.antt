@@ -2,7 +2,6 @@ use Prim.Native.Nat.{suc}
 use native.Mathlib.Omega.{arith}
 use mathlib.Core.Path.{sym, ◌∙◌}
 use lib.ListN.{get_or}
-use borrow.Author.Tests.{not-false}
 use Rattle.generation.proofs.Reaching.{walk_start, walk_on, walk_end, one≤1}
 use Rattle.generation.proofs.sound.slots_sound.Goals as goal
 
@@ -26,7 +25,7 @@ loop-i-preserved c =
     let l = c.loop-i in
     let h = c.loop-i-test.true in
     let further = c.smaller-further in
-    let is-near = sym (not-false _ c.if-not-is_near.false) ∙ c.is_near.ensures in
+    let is-near = sym c.if-not-is_near.false ∙ c.is_near.ensures in
     walk_on _ l.n l.i l.invariant h (suc further.result) (omega (arith, further.ensures)) is-near _ c.one_if_held-one.ensures
 
 pub returns : goal.returns

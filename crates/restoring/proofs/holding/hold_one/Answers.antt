@@ -1,4 +1,3 @@
-use borrow.Author.Tests.{not-true, not-false}
 use native.Mathlib.Omega.{arith}
 use Rattle.restoring.proofs.Generations.{one_refused, one_drawn}
 use Rattle.restoring.proofs.holding.hold_one.Goals as goal
@@ -7,7 +6,7 @@ pub returns-then-not-draw : goal.returns-then-not-draw
 returns-then-not-draw c =
     let draw = c.draw in
     let d = draw.ensures in
-    (d.0, (one_refused c.args.s c.args.r c.args.h c.requires.0.1 c.args.fp c.args.draws c.args.run.now _ _ (not-true _ c.if-not-draw.true) d.1, omega arith))
+    (d.0, (one_refused c.args.s c.args.r c.args.h c.requires.0.1 c.args.fp c.args.draws c.args.run.now _ _ c.if-not-draw.true d.1, omega arith))
 
 pub returns : goal.returns
 returns c =
@@ -16,4 +15,4 @@ returns c =
     let hold = c.hold-fits in
     let d = draw.ensures in
     let e = hold.ensures in
-    (e.0, (one_drawn c.args.s c.args.r c.args.h c.requires.0.1 c.args.fp c.args.draws c.args.run.now _ _ _ _ (not-false _ if1.false) d.1 e.1, omega arith))
+    (e.0, (one_drawn c.args.s c.args.r c.args.h c.requires.0.1 c.args.fp c.args.draws c.args.run.now _ _ _ _ if1.false d.1 e.1, omega arith))

@@ -2,7 +2,6 @@
 use Prim.Native.Nat.{◌*◌}
 use native.Mathlib.Omega.{arith}
 use mathlib.Core.Path.{sym, ◌∙◌, ◌≡◌}
-use borrow.Author.Tests.{not-true, not-false}
 use Rattle.runs.specs.Combine.{both, free}
 use Rattle.model.specs.Words.{book_form, registers_form, unused_width}
 use Rattle.model.proofs.Bounds.{fit_shares}
@@ -18,7 +17,7 @@ returns-then-not-book_sound c =
     let t = c.args.s in
     let w = class_width.ensures.0 in
     let e : 3 * class_width.result ≡ (book_form t).wide = omega arith in
-    first_not (book_form t) (both (registers_form t) (free (unused_width t))) c.args.body.now _ e (omega arith) (sym (not-true _ c.if-not-book_sound.true) ∙ c.book_sound.ensures)
+    first_not (book_form t) (both (registers_form t) (free (unused_width t))) c.args.body.now _ e (omega arith) (sym c.if-not-book_sound.true ∙ c.book_sound.ensures)
 
 pub returns : goal.returns
 returns c =
@@ -28,5 +27,5 @@ returns c =
     let t = c.args.s in
     let w = class_width.ensures.0 in
     let e : 3 * class_width.result ≡ (book_form t).wide = omega arith in
-    first_on (book_form t) (both (registers_form t) (free (unused_width t))) c.args.body.now _ e (omega arith) (sym (not-false _ if1.false) ∙ book-sound.ensures)
+    first_on (book_form t) (both (registers_form t) (free (unused_width t))) c.args.body.now _ e (omega arith) (sym if1.false ∙ book-sound.ensures)
     _ c.registers_sound.ensures

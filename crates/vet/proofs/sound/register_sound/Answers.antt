@@ -1,7 +1,6 @@
 -- Its own words decide, or else its rings.
 use native.Mathlib.Omega.{arith}
 use mathlib.Core.Path.{refl, sym, ◌∙◌}
-use borrow.Author.Tests.{not-true, not-false}
 use Rattle.model.specs.RegisterWords.{heading_form, each_form, ring_form}
 use Rattle.vet.proofs.Tests.{first_not, first_on}
 use Rattle.vet.proofs.sound.register_sound.Goals as goal
@@ -9,11 +8,11 @@ use Rattle.vet.proofs.sound.register_sound.Goals as goal
 pub returns-then-not-heading_sound : goal.returns-then-not-heading_sound
 returns-then-not-heading_sound c =
     first_not (heading_form c.args.u) (each_form (λ c. ring_form c.args.u)) c.args.register.now 24 refl (let l = c.requires.1 in omega arith)
-    (sym (not-true _ c.if-not-heading_sound.true) ∙ c.heading_sound.ensures)
+    (sym c.if-not-heading_sound.true ∙ c.heading_sound.ensures)
 
 pub returns : goal.returns
 returns c =
     let heading_sound = c.heading_sound in
     let if1 = c.if-not-heading_sound in
     first_on (heading_form c.args.u) (each_form (λ c. ring_form c.args.u)) c.args.register.now 24 refl (let l = c.requires.1 in omega arith)
-    (sym (not-false _ if1.false) ∙ heading_sound.ensures) _ c.rings_sound.ensures
+    (sym if1.false ∙ heading_sound.ensures) _ c.rings_sound.ensures

@@ -1,7 +1,6 @@
 -- The front decides, or else what lies behind it.
 use native.Mathlib.Omega.{arith}
 use mathlib.Core.Path.{refl, sym, ◌∙◌}
-use borrow.Author.Tests.{not-true, not-false}
 use borrow.Rule.Slice.PartMut.{mid_len}
 use Rattle.runs.specs.Combine.{both, free}
 use Rattle.model.specs.Calls.{sound}
@@ -19,7 +18,7 @@ returns-then-not-front_sound c =
     let s = c.args.s in
     let k = all_inside s c.requires.0 in
     rw c.requires.1 at (head_not (front_form s) (both (book_form s) (both (registers_form s) (free (unused_width s)))) c.args.need c.args.words.now 20 refl
-    (omega arith) (sym (not-true _ c.if-not-front_sound.true) ∙ c.front_sound.ensures))
+    (omega arith) (sym c.if-not-front_sound.true ∙ c.front_sound.ensures))
 
 pub slice_bounds-body_sound-count : goal.slice_bounds-body_sound-count
 slice_bounds-body_sound-count c = let k = all_inside c.args.s c.requires.0 in omega arith
@@ -39,4 +38,4 @@ returns c =
     let s = c.args.s in
     let k = all_inside s c.requires.0 in
     rw c.requires.1 at (head_on (front_form s) (both (book_form s) (both (registers_form s) (free (unused_width s)))) c.args.need c.args.words.now 20 refl
-    (omega arith) (sym (not-false _ c.if-not-front_sound.false) ∙ c.front_sound.ensures) _ c.body_sound.ensures)
+    (omega arith) (sym c.if-not-front_sound.false ∙ c.front_sound.ensures) _ c.body_sound.ensures)

@@ -1,0 +1,12 @@
+use Rattle.strikes.proofs.OnRegister.{told_refused, words_there}
+use Rattle.strikes.proofs.Deeds.{was_judged_batch}
+use Rattle.strikes.proofs.judge_batch.Goals as goal
+
+pub returns-then-at-ne0 : goal.returns-then-at-ne0
+returns-then-at-ne0 c = search told_refused
+
+pub judge_batch-requires : goal.judge_batch-requires
+judge_batch-requires c = search words_there
+
+pub returns : goal.returns
+returns c = search was_judged_batch

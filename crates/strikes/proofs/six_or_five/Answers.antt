@@ -1,0 +1,10 @@
+use Rattle.strikes.proofs.six_or_five.Goals as goal
+
+pub returns-then-pending : goal.returns-then-pending
+returns-then-pending c = rw c.if-pending.true
+
+pub returns-then-short : goal.returns-then-short
+returns-then-short c = rw (c.if-pending.false, c.if-short.true)
+
+pub returns : goal.returns
+returns c = rw (c.if-pending.false, c.if-short.false)

@@ -1,0 +1,16 @@
+use Rattle.strikes.proofs.Entering.{register_settings}
+use Rattle.strikes.proofs.OnWhole.{run_refused, run_there, register_there}
+use Rattle.strikes.proofs.Runs.{was_taken_batch}
+use Rattle.strikes.proofs.take_batch.Goals as goal
+
+pub returns-then-e-ne0 : goal.returns-then-e-ne0
+returns-then-e-ne0 c = search run_refused
+
+pub settings_of-s-requires : goal.settings_of-s-requires
+settings_of-s-requires c = search register_settings
+
+pub take_batch-requires : goal.take_batch-requires
+take_batch-requires c = search (run_there, register_there)
+
+pub returns : goal.returns
+returns c = search was_taken_batch
