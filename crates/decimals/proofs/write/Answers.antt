@@ -9,4 +9,4 @@ pub returns : goal.returns
 returns c =
     let p = c.put in
     let l = twenty_at_most c.args.n (omega (arith, c.ranges.n)) in
-    (p.ensures, (omega (arith, p.ensures.0, not_empty c.args.n), omega (arith, p.ensures.0, l)))
+    record { value = p.ensures; lower_bound = (omega (arith, p.ensures.0, not_empty c.args.n), omega (arith, p.ensures.0, l)) }
