@@ -7,6 +7,3 @@ pub mod Spots
 pub mod Entering
 pub mod Returning
 pub mod Keeping
-pub mod Lending
-pub mod LentTotals
-pub mod LendingTotals

@@ -3,4 +3,4 @@ use Rattle.book.proofs.Judging.{shuts}
 use Rattle.book.proofs.front.close.Goals as goal
 
 pub returns : goal.returns
-returns c = (refl, λ s. shuts _ s)
+returns c = record { front_after = refl; turns = λ s. shuts _ s }

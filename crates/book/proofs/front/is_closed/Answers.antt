@@ -3,4 +3,4 @@ use Rattle.book.proofs.Judging.{reads_closed}
 use Rattle.book.proofs.front.is_closed.Goals as goal
 
 pub returns : goal.returns
-returns c = (refl, λ s. reads_closed _ s)
+returns c = record { value = refl; reads = λ s. reads_closed _ s }

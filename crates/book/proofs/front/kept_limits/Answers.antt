@@ -5,4 +5,4 @@ pub returns : goal.returns
 returns c =
     let ws = c.args.front.now in
     let e = limits_read ws in
-    (e, λ s. rw e (reads_limits ws s))
+    record { value = e; reads = λ s. rw e (reads_limits ws s) }

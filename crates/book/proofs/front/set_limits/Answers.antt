@@ -17,4 +17,4 @@ pub bounds-front-9 : goal.bounds-front-9
 bounds-front-9 c = simp length-set (omega arith)
 
 pub returns : goal.returns
-returns c = (refl, λ s. sets_limits _ s c.args.limits)
+returns c = record { front_after = refl; turns = λ s. sets_limits _ s c.args.limits }

@@ -8,4 +8,4 @@ pub bounds-part-9 : goal.bounds-part-9
 bounds-part-9 c = let h = c.requires in let k = length-set c.args.part.now 8 0 in omega arith
 
 pub returns : goal.returns
-returns c = (refl, λ u. forget_turns _ u)
+returns c = record { part_after = refl; register_turns = λ u. forget_turns _ u }

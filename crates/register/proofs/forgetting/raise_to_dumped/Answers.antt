@@ -5,11 +5,11 @@ pub returns-then-floor-eq0 : goal.returns-then-floor-eq0
 returns-then-floor-eq0 c =
     let a = c.args in
     let e = dumped_none a.floor a.part.now c.if-floor-eq0.true in
-    (e, λ u. dumped_turns a.floor a.part.now u _ e)
+    record { part_after = e; register_turns = λ u. dumped_turns a.floor a.part.now u _ e }
 
 pub returns : goal.returns
 returns c =
     let a = c.args in
     let some = c.if-floor-eq0.false in
     let e = dumped_some a.floor a.part.now _ some c.raise_floor.ensures.part_after in
-    (e, λ u. dumped_turns a.floor a.part.now u _ e)
+    record { part_after = e; register_turns = λ u. dumped_turns a.floor a.part.now u _ e }

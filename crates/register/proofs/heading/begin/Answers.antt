@@ -6,7 +6,7 @@ pub returns-then-not-is_pending : goal.returns-then-not-is_pending
 returns-then-not-is_pending c =
     let a = c.args in
     let e = begin_already a.number a.part.now (sym c.is_pending.ensures.value ∙ c.if-not-is_pending.true) in
-    (e, λ u. begin_turns a.number a.part.now u _ _ e)
+    record { part_after = e; register_turns = λ u. begin_turns a.number a.part.now u _ _ e }
 
 pub returns : goal.returns
 returns c =
@@ -14,4 +14,4 @@ returns c =
     let pending = c.is_pending.ensures.value in
     let left = c.if-not-is_pending.false in
     let e = begin_begun a.number a.part.now _ (sym pending ∙ left) c.raise_floor.ensures.part_after in
-    (e, λ u. begin_turns a.number a.part.now u _ _ e)
+    record { part_after = e; register_turns = λ u. begin_turns a.number a.part.now u _ _ e }

@@ -8,4 +8,4 @@ pub returns : goal.returns
 returns c =
     let a = c.args in
     let e = under_words a.stamp (get_or a.part.now has_floor_at 0) (get_or a.part.now floor_at 0) in
-    (e, λ u. rw e (floor_reads u a.part.now (under a.stamp)))
+    record { value = e; register_reads = λ u. rw e (floor_reads u a.part.now (under a.stamp)) }

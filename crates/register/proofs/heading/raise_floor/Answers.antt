@@ -8,7 +8,7 @@ pub returns-then-is_under : goal.returns-then-is_under
 returns-then-is_under c =
     let a = c.args in
     let e = raise_stays a.stamp a.part.now (sym c.is_under.ensures.value ∙ c.if-is_under.true) in
-    (e, λ u. raise_turns a.stamp a.part.now u _ e)
+    record { part_after = e; register_turns = λ u. raise_turns a.stamp a.part.now u _ e }
 
 pub bounds-part-9 : goal.bounds-part-9
 bounds-part-9 c = let h = c.requires in let k = length-set c.args.part.now 8 1 in omega arith
@@ -17,4 +17,4 @@ pub returns : goal.returns
 returns c =
     let a = c.args in
     let e = raise_moves a.stamp a.part.now (sym c.is_under.ensures.value ∙ c.if-is_under.false) in
-    (e, λ u. raise_turns a.stamp a.part.now u _ e)
+    record { part_after = e; register_turns = λ u. raise_turns a.stamp a.part.now u _ e }

@@ -13,4 +13,4 @@ pub returns : goal.returns
 returns c =
     let a = c.args in
     let e = ap (λ (p : ℕ). set (set a.part.now swept_at a.swept.0) published_at p) c.published-published.ensures in
-    (e, sweep_turns a.u a.swept.0 a.part.now _ e)
+    record { part_after = e; register_turns = sweep_turns a.u a.swept.0 a.part.now _ e }

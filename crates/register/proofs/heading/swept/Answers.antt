@@ -3,4 +3,4 @@ use Rattle.register.proofs.HeadWords.{swept_reads}
 use Rattle.register.proofs.heading.swept.Goals as goal
 
 pub returns : goal.returns
-returns c = (refl, λ u. swept_reads u _)
+returns c = record { value = refl; register_reads = λ u. swept_reads u _ }

@@ -5,7 +5,7 @@ use Rattle.register.proofs.judging.judge.Goals as goal
 pub returns-then-pending-ask : goal.returns-then-pending-ask
 returns-then-pending-ask c =
     let is-pending = c.is_pending-pending in
-    let t = unjudged_turns c.args.u (asked_by c.args.ask) _ _ (is-pending.ensures.1 c.args.u) c.if-pending-ask.true in
+    let t = unjudged_turns c.args.u (asked_by c.args.ask) _ _ (is-pending.ensures.register_reads c.args.u) c.if-pending-ask.true in
     (judged_words c.args.u (asked_by c.args.ask) _ _ _ t c.requires, t)
 
 pub returns : goal.returns

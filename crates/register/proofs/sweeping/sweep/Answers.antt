@@ -17,7 +17,7 @@ returns-then-through-swept-2 c =
     let if3 = c.if-through-swept-2 in
     let set-swept = c.set_swept in
     let t = sweep_back c.args.u c.args.reading.0 c.args.part.now _ _ _ (c.is_pending.ensures.register_reads c.args.u) c.if-is_pending.false
-    c.through_of-through.ensures if3.true set-swept.ensures.1 in
+    c.through_of-through.ensures if3.true set-swept.ensures.register_turns in
     (swept_words c.args.u c.args.reading.0 _ _ t c.requires, t)
 
 pub returns : goal.returns

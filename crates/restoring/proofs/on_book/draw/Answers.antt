@@ -16,7 +16,7 @@ take-answer-requires c =
       share_asks c.args.s c.args.r c.requires.0.1 c.args.h c.args.run.now c.requires.0.0 _ _ class_start.ensures.0
           (ap (λ (n : ℕ). class_start.result + n) c.class_width.ensures.0),
       limits_are_fit c.args.s c.args.run.now c.requires.0.0 _ _
-          (kept-limits.ensures.1 c.args.s) (is-closed.ensures.1 c.args.s),
+          (kept-limits.ensures.reads c.args.s) (is-closed.ensures.reads c.args.s),
     )
 
 pub returns : goal.returns
@@ -27,5 +27,5 @@ returns c =
     let class_width = c.class_width in
     let take = c.take-answer in
     draw_acts c.args.s c.args.r c.requires.0.1 c.args.h c.args.run.now c.requires.0.0 _ _ class_start.ensures.0
-    (ap (λ (n : ℕ). class_start.result + n) class_width.ensures.0) _ _ (kept-limits.ensures.1 c.args.s) (is-closed.ensures.1 c.args.s) c.requires.1 _ _ _
+    (ap (λ (n : ℕ). class_start.result + n) class_width.ensures.0) _ _ (kept-limits.ensures.reads c.args.s) (is-closed.ensures.reads c.args.s) c.requires.1 _ _ _
     take.ensures c.is_granted.ensures
