@@ -62,16 +62,16 @@ module _ (t i : ℕ) (ps : List Place) (h : i < length ps) where
   later_here e = later_suc ∙ rw (keep_here (later_pairs t here.pairs) here e)
 
 -- ---- the words between
-between_append : (W t : ℕ) (gap : List ℕ) (xs ys : List Place) → between W t gap (xs ++ ys) ≡ between W t (between W t gap xs) ys
+between_append : (W t : ℕ) (xs ys : List Place) (gap : List ℕ) → between W t gap (xs ++ ys) ≡ between W t (between W t gap xs) ys
 unfolding between
-between_append W t gap [] ys = refl
-between_append W t gap (p ∷ xs) ys = between_append W t _ xs ys
+between_append W t [] ys gap = refl
+between_append W t (p ∷ xs) ys gap = between_append W t xs ys _
 
 module _ (W t i : ℕ) (ps : List Place) (h : i < length ps) (gap : List ℕ) (is : gap ≡ between W t [] (take i ps)) where
   between_suc : between W t [] (take (suc i) ps)
       ≡ drop (cond (eqb (length (later_pairs t (get_or ps i nobody).pairs)) 0) 0 W) (gap ++ expired_words t (get_or ps i nobody))
   unfolding between
-  between_suc = ap (between W t []) (take-suc ps i nobody h) ∙ between_append W t [] (take i ps) (get_or ps i nobody ∷ []) ∙ rw is
+  between_suc = ap (between W t []) (take-suc ps i nobody h) ∙ between_append W t (take i ps) (get_or ps i nobody ∷ []) [] ∙ rw is
 
   pub between_gone : length (later_pairs t (get_or ps i nobody).pairs) ≡ 0
       → gap ++ expired_words t (get_or ps i nobody) ≡ between W t [] (take (suc i) ps)

@@ -100,6 +100,7 @@ none_accepts (x ∷ xs) = not (eqb (reason_number x.names) 0) && none_accepts xs
 
 named_above : (xs : List (Rule Reason)) → none_accepts xs ≡ true → (n : Reason) → First n xs → reason_number n ≡ 0 → ⊥
 unfolding none_accepts
+named_above [] p n first z = elim first [ ]
 named_above (x ∷ xs) p n (here met is) z =
     let q = (both_true (not (eqb (reason_number x.names) 0)) (none_accepts xs) p).0 in
     eqb-false (reason_number x.names) 0 (not-true (eqb (reason_number x.names) 0) q) (ap reason_number is ∙ z)

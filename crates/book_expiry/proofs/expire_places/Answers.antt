@@ -15,7 +15,7 @@ expire_place-kept-requires c =
     let s = c.args in
     let pre = c.requires in
     let l = c.loop-i in
-    stands s.shares s.class s.t s.part.now pre l.i l.auto l.part l.invariant.2 c.loop-i-test.true l.invariant.0
+    stands s.shares s.class s.t s.part.now pre l.i l.kept l.part l.invariant.2 c.loop-i-test.true l.invariant.0
 
 pub loop-i-preserved : goal.loop-i-preserved
 loop-i-preserved c =
@@ -24,11 +24,11 @@ loop-i-preserved c =
     let l = c.loop-i in
     let loop-test = c.loop-i-test in
     let expire-place = c.expire_place-kept in
-    (search rules, omega arith, on s.shares s.class s.t s.part.now pre l.i l.auto l.part l.invariant.2 loop-test.true _ _ expire-place.ensures)
+    (search rules, omega arith, on s.shares s.class s.t s.part.now pre l.i l.kept l.part l.invariant.2 loop-test.true _ _ expire-place.ensures)
 
 pub returns : goal.returns
 returns c =
     let s = c.args in
     let l = c.loop-i in
     let e : l.i ≡ get_or s.part.now 1 0 = omega arith in
-    subst (λ (n : ℕ). Walking s.shares s.class s.t s.part.now n l.auto l.part) e l.invariant.2
+    subst (λ (n : ℕ). Walking s.shares s.class s.t s.part.now n l.kept l.part) e l.invariant.2
