@@ -29,7 +29,6 @@ use Rattle.numbers.specs.RegisterAt.{RegisterAt}
 use Rattle.register.specs.Rules.{failed_at, floor_gone}
 use Rattle.register.specs.Words.{RegisterReads, RegisterTurns}
 use Rattle.taking.specs.Words.{RunWords}
-use Rattle.taking.proofs.Taking.{not_at}
 use Rattle.restoring.specs.declared.heads.Head.{Head}
 use Rattle.restoring.specs.Rules.{room_in, fits_in, held_at, held_in}
 use Rattle.restoring.specs.Words.{Acts}
@@ -48,12 +47,12 @@ module _ (u : Usable) (h : Head) (fp : ℕ) where
   struck_at reg i = (refl, refl)
 
   pub hold_stays : (ws : List ℕ) (print : ℕ) (m : Room) → print ≡ as_read fp
-      → RegisterReads u (λ reg. make_room u.slots h.bucket.0 print (pick h.class reg.rings)) ws m → OneOf (1 ∷ 2 ∷ []) (tag_of the_type m)
+      → RegisterReads u (λ reg. make_room u.slots h.bucket.0 print (pick h.class reg.rings)) ws m → ((i : ℕ) → m ≡ At i → ⊥)
       → RegisterTurns u (held_in u h fp) (λ reg. fits_in (room_in u h fp reg)) ws ws false
   hold_stays ws print m e f o = record {
     does = λ reg ok is.
         let q : m ≡ room_in u h fp reg = f.says reg ok is ∙ ap (λ (n : ℕ). make_room u.slots h.bucket.0 n (pick h.class reg.rings)) e in
-        let z = stays_at reg m (not_at m o) in
+        let z = stays_at reg m o in
         (is ∙ ap (register_form u).enc (z.0 ∙ ap (held_at h fp reg) q), z.1 ∙ ap fits_in q);
   }
 

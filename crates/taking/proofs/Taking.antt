@@ -38,13 +38,6 @@ use Rattle.taking.specs.Words.{StateReads, StateTurns, RunWords}
 use Rattle.taking.proofs.InRun.{known, known_turns}
 use Rattle.taking.proofs.Draws.{drawn_fine}
 
--- of the three rooms the second and the third are no position
-pub not_at : (m : Room) → OneOf (1 ∷ 2 ∷ []) (tag_of the_type m) → (i : ℕ) → m ≡ At i → ⊥
-not_at (At j) (inl z) i e = no z
-not_at (At j) (inr z) i e = let n : ◌≡◌ {A = ℕ} 0 2 = z in omega arith
-not_at Collides o i e = no (cc)
-not_at NoSlots o i e = no (cc)
-
 -- a draw that is granted is no other
 granted_is : (d : Draw) → granted d ≡ true → d ≡ Had
 granted_is Had e = refl

@@ -19,4 +19,6 @@ pub overflow_add-result-2 : goal.overflow_add-result-2
 overflow_add-result-2 c = omega (arith, (held_sum c.args.wide c.args.ring c.args.words.now c.count_held-a.ensures c.count_held-b.ensures c.count_held-c.ensures c.requires.few).1)
 
 pub returns : goal.returns
-returns c = held_sum c.args.wide c.args.ring c.args.words.now c.count_held-a.ensures c.count_held-b.ensures c.count_held-c.ensures c.requires.few
+returns c =
+    let s = held_sum c.args.wide c.args.ring c.args.words.now c.count_held-a.ensures c.count_held-b.ensures c.count_held-c.ensures c.requires.few in
+    record { value = s.0; upper_bound = s.1 }

@@ -35,5 +35,5 @@ returns c =
     let z = restore_class.ensures in (
       x.0,
       dump_acts c.args.s c.args.r (dump_at (words_of c.args.bytes.now)) c.args.run.now _ _ _ _ _ _ _
-          (rw floor_word.ensures at raise-to-dumped.ensures.register_turns) z.1.1 (rw z.1.0 at y.1.1) (rw (y.1.0, z.1.0) at x.1.1),
+          (rw floor_word.ensures at raise-to-dumped.ensures.1) z.1.1 (rw z.1.0 at y.1.1) (rw (y.1.0, z.1.0) at x.1.1),
     )

@@ -10,7 +10,7 @@ returns-then-not-proven c =
     let a = restore-dump.ensures in (
       a.0,
       resume_plain c.args.s c.args.r c.requires.0.1 (dump_at (words_of c.args.bytes.now)) c.args.proven c.args.floor c.args.run.now _ _ _
-          c.if-not-proven.true forget-floor.ensures.register_turns a.1,
+          c.if-not-proven.true forget-floor.ensures.1 a.1,
     )
 
 pub returns : goal.returns
@@ -23,5 +23,5 @@ returns c =
     let e = raise-floor.ensures in (
       e.0,
       resume_proven c.args.s c.args.r c.requires.0.1 (dump_at (words_of c.args.bytes.now)) c.args.proven c.args.floor c.args.run.now _ _ _
-          _ if1.false forget-floor.ensures.register_turns a.1 e.1,
+          _ if1.false forget-floor.ensures.1 a.1 e.1,
     )

@@ -2,6 +2,7 @@ use Rattle.model.specs.Dump.{words_of}
 use Rattle.dump.specs.Walk.{length_at}
 use Prim.Native.Nat.{◌<◌, ◌≤◌}
 use native.Mathlib.Omega.{arith}
+use borrow.Author.Tests.{not-true, not-false}
 use Rattle.restoring.proofs.Generations.{holds_start, holds_next, holds_stop, holds_end}
 use Rattle.restoring.proofs.holding.hold_all.Goals as goal
 
@@ -28,7 +29,7 @@ returns-then-not-one c =
     let less : i.k < length_at (words_of c.args.bytes.now) c.args.at = omega arith in (
       one.ensures.0,
       holds_stop c.args.s c.args.r c.args.h c.args.bytes.now c.args.at c.args.run.now c.requires.1.1 _ _ i.draws i.k _ _
-          i.invariant less print-at.ensures one.ensures.1.0 c.if-not-one.true,
+          i.invariant less print-at.ensures one.ensures.1.0 (not-true _ c.if-not-one.true),
     )
 
 pub loop-k-preserved : goal.loop-k-preserved
@@ -41,7 +42,7 @@ loop-k-preserved c =
     let e = c.requires.1.0 in
     let less : i.k < length_at (words_of c.args.bytes.now) c.args.at = omega arith in
     holds_next c.args.s c.args.r c.args.h c.args.bytes.now c.args.at c.args.run.now c.requires.1.1 _ _ i.draws i.k _ _ i.invariant less
-    print-at.ensures one.ensures.0 one.ensures.1.0 one.ensures.1.1 c.if-not-one.false
+    print-at.ensures one.ensures.0 one.ensures.1.0 one.ensures.1.1 (not-false _ c.if-not-one.false)
 
 pub returns : goal.returns
 returns c =

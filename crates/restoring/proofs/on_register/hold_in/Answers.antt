@@ -10,19 +10,17 @@ room-requires c = (let k = c.as_read-print.ensures in omega (arith, k, read_posi
 pub returns-in_default : goal.returns-in_default
 returns-in_default c =
     let as_read = c.as_read-print in
-    hold_stays c.args.u c.args.h c.args.fp c.args.part.now _ _ as_read.ensures c.room.ensures c.in_default.in_default-own.keys2
+    hold_stays c.args.u c.args.h c.args.fp c.args.part.now _ _ as_read.ensures c.room.ensures c.in_default.not-At
 
 pub strike-requires : goal.strike-requires
 strike-requires c =
     let as_read = c.as_read-print in
     let room = c.room in
-    let position = c.position-1 in
-    ((let k = as_read.ensures in omega (arith, k, read_positive c.args.fp), c.requires), rw position.given.1 at room.ensures)
+    ((let k = as_read.ensures in omega (arith, k, read_positive c.args.fp), c.requires), rw c.in-At.is at room.ensures)
 
 pub returns : goal.returns
 returns c =
     let as_read = c.as_read-print in
     let room = c.room in
-    let position = c.position-1 in
     let strike = c.strike in
-    hold_strikes c.args.u c.args.h c.args.fp c.args.part.now _ _ _ _ as_read.ensures position.given.1 room.ensures strike.ensures
+    hold_strikes c.args.u c.args.h c.args.fp c.args.part.now _ _ _ _ as_read.ensures c.in-At.is room.ensures strike.ensures

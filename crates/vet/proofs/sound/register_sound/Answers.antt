@@ -7,12 +7,12 @@ use Rattle.vet.proofs.sound.register_sound.Goals as goal
 
 pub returns-then-not-heading_sound : goal.returns-then-not-heading_sound
 returns-then-not-heading_sound c =
-    first_not (heading_form c.args.u) (each_form (λ c. ring_form c.args.u)) c.args.register.now 24 refl (let l = c.requires.1 in omega arith)
+    first_not (heading_form c.args.u) (each_form (λ _. ring_form c.args.u)) c.args.register.now 24 refl (let l = c.requires.1 in omega arith)
     (sym c.if-not-heading_sound.true ∙ c.heading_sound.ensures)
 
 pub returns : goal.returns
 returns c =
     let heading_sound = c.heading_sound in
     let if1 = c.if-not-heading_sound in
-    first_on (heading_form c.args.u) (each_form (λ c. ring_form c.args.u)) c.args.register.now 24 refl (let l = c.requires.1 in omega arith)
+    first_on (heading_form c.args.u) (each_form (λ _. ring_form c.args.u)) c.args.register.now 24 refl (let l = c.requires.1 in omega arith)
     (sym if1.false ∙ heading_sound.ensures) _ c.rings_sound.ensures

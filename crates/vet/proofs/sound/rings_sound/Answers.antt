@@ -9,14 +9,14 @@ use Rattle.vet.proofs.sound.rings_sound.Goals as goal
 pub is_sound-feeders-requires : goal.is_sound-feeders-requires
 is_sound-feeders-requires c =
     let ring_of = c.ring_of-n in
-    ring_sized c.args.u c.requires.0 _ ring_of.ensures _ (first_long (λ c. ring_form c.args.u) (ring_width c.args.u) (λ c. refl) c.args.rings.now
+    ring_sized c.args.u c.requires.0 _ ring_of.ensures _ (first_long (λ _. ring_form c.args.u) (ring_width c.args.u) (λ _. refl) c.args.rings.now
     c.requires.1 _ _ c.ring_width-a.ensures.0 refl)
 
 pub is_sound-peers-requires : goal.is_sound-peers-requires
 is_sound-peers-requires c =
     let ring_of = c.ring_of-n in
     let ring-width-2 = c.ring_width-a in
-    ring_sized c.args.u c.requires.0 _ ring_of.ensures _ (second_long (λ c. ring_form c.args.u) (ring_width c.args.u) (λ c. refl) c.args.rings.now
+    ring_sized c.args.u c.requires.0 _ ring_of.ensures _ (second_long (λ _. ring_form c.args.u) (ring_width c.args.u) (λ _. refl) c.args.rings.now
     c.requires.1 _ _ ring-width-2.ensures.0 refl)
 
 pub is_sound-own-requires : goal.is_sound-own-requires
@@ -24,7 +24,7 @@ is_sound-own-requires c =
     let ring_of = c.ring_of-n in
     let ring-width-2 = c.ring_width-a in
     ring_sized c.args.u c.requires.0 _ ring_of.ensures _
-    (third_long (λ c. ring_form c.args.u) (ring_width c.args.u) (λ c. refl) c.args.rings.now c.requires.1 _ _ ring-width-2.ensures.0 refl)
+    (third_long (λ _. ring_form c.args.u) (ring_width c.args.u) (λ _. refl) c.args.rings.now c.requires.1 _ _ ring-width-2.ensures.0 refl)
 
 pub returns : goal.returns
 returns c =
@@ -33,5 +33,5 @@ returns c =
     let is-sound = c.is_sound-feeders in
     let is-sound2 = c.is_sound-peers in
     let e = ring_of.ensures in
-    each_test (λ c. ring_form c.args.u) (ring_width c.args.u) (λ c. refl) c.args.rings.now c.requires.1 _ _ ring-width-2.ensures.0 refl _ _ _
+    each_test (λ _. ring_form c.args.u) (ring_width c.args.u) (λ _. refl) c.args.rings.now c.requires.1 _ _ ring-width-2.ensures.0 refl _ _ _
     (rw e at is-sound.ensures) (rw e at is-sound2.ensures) (rw e at c.is_sound-own.ensures)
