@@ -13,6 +13,7 @@ unfolding deed_fits deed_refusals done_on
 tells fp = record { fits = refl; never = λ reg. refl; says = λ s r t. refl }
 
 pub returns-then-at-ne0 : goal.returns-then-at-ne0
+unfolding deed_fits
 returns-then-at-ne0 c = search read_refused
 
 pub contains_hash-requires : goal.contains_hash-requires

@@ -1,9 +1,11 @@
 use Rattle.strikes.proofs.Entering.{register_settings}
 use Rattle.strikes.proofs.OnWhole.{run_refused, run_there, register_there}
 use Rattle.strikes.proofs.OnRestore.{restore_cut, whole_dump, within_bytes, was_restored}
+use Rattle.model.specs.Calls.{deed_fits}
 use Rattle.strikes.proofs.restore.Goals as goal
 
 pub returns-then-e-ne0 : goal.returns-then-e-ne0
+unfolding deed_fits
 returns-then-e-ne0 c = search run_refused
 
 pub returns-in_default : goal.returns-in_default

@@ -1,9 +1,11 @@
 use Rattle.strikes.proofs.Entering.{register_settings}
 use Rattle.strikes.proofs.OnWhole.{run_refused, run_there, register_there}
 use Rattle.strikes.proofs.Runs.{was_taken_batch}
+use Rattle.model.specs.Calls.{deed_fits}
 use Rattle.strikes.proofs.take_batch.Goals as goal
 
 pub returns-then-e-ne0 : goal.returns-then-e-ne0
+unfolding deed_fits
 returns-then-e-ne0 c = search run_refused
 
 pub settings_of-s-requires : goal.settings_of-s-requires
