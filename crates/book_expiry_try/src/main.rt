@@ -12,36 +12,34 @@ ghost use Rattle.book_expiry_try.specs.Fixed.{fixed};
 
 use model::{Class, Second, Shares};
 use numbers::layout;
+use std::io;
 
 // The words of the class.
 const WORDS: usize = layout::CLASS_HEAD + 3 * (2 * 3 + layout::PLACE_HEAD);
 
-fn print(n: u64, end: u8) {
-    io::print_decimal(1, n);
-    let line = [end];
-    io::write_all(1, &line);
+fn print(rt: &impl Print, n: u64, end: u8) -> io::Result<()> {
+    print!(rt; "{n}")?;
+    rt.write_all(&[end])
 }
 
-fn print_test(yes: bool, end: u8) {
+fn print_test(rt: &impl Print, yes: bool, end: u8) -> io::Result<()> {
     if yes {
-        print(1, end);
-        return;
+        return print(rt, 1, end);
     }
-    print(0, end);
+    print(rt, 0, end)
 }
 
-fn end_line() {
-    let line = [b'\n'];
-    io::write_all(1, &line);
+fn end_line(rt: &impl Print) -> io::Result<()> {
+    rt.write_all(&[b'\n'])
 }
 
-fn show(words: &[u64]) {
+fn show(rt: &impl Print, words: &[u64]) -> io::Result<()> {
     let mut i = 0;
     while i < words.len() {
-        print(words[i], b' ');
+        print(rt, words[i], b' ')?;
         i += 1;
     }
-    end_line();
+    end_line(rt)
 }
 
 fn shares() -> Shares
@@ -66,76 +64,78 @@ fn is_class(words: &[u64]) -> bool
 }
 
 // The test with another word at one place, which is then put back.
-fn altered(words: &mut [u64], at: usize, word: u64)
+fn altered(rt: &impl Print, words: &mut [u64], at: usize, word: u64) -> io::Result<()>
     requires { at < length words.old }
 {
     let kept = words[at];
     words[at] = word;
-    print_test(is_class(words), b' ');
+    print_test(rt, is_class(words), b' ')?;
     words[at] = kept;
+    Ok(())
 }
 
 // The test with counts of the first place whose sum is 6 past 2^64, where 6 is its entries.
-fn wrapped(words: &mut [u64])
+fn wrapped(rt: &impl Print, words: &mut [u64]) -> io::Result<()>
     requires { 11 < length words.old }
 {
     let first = words[9];
     let second = words[11];
     words[9] = 18446744073709551615;
     words[11] = 6;
-    print_test(is_class(words), b' ');
+    print_test(rt, is_class(words), b' ')?;
     words[9] = first;
     words[11] = second;
+    Ok(())
 }
 
 // Expires sound words up to a second.
-fn expire(words: &mut [u64], second: u64)
+fn expire(rt: &impl Print, words: &mut [u64], second: u64) -> io::Result<()>
     requires { second ≤ top32 }
 {
     let sound = is_class(words);
-    print_test(sound, b' ');
+    print_test(rt, sound, b' ')?;
     if !sound {
-        return;
+        return Ok(());
     }
     book_expiry::expire(words, shares(), Class::Feeders, Second(second));
-    print_test(is_class(words), b':');
-    show(words);
+    print_test(rt, is_class(words), b':')?;
+    show(rt, words)
 }
 
-fn main() {
+fn main(rt: HostRuntime) -> io::Result<()> {
     // 13 entries of 3 holders, 25 units, expired 10; Feeder 7, Feeder 8 with two free cells, and Restored with a free number
     let mut words = [
         13, 3, 25, 10, 0, 7, 6, 3, 12, 2, 20, 3, 30, 1, 0, 8, 5, 2, 11, 4, 15, 1, 99, 98, 3, 44, 2,
         1, 25, 2, 0, 0, 0, 0u64,
     ];
     // seconds that do not rise
-    altered(&mut words, 10, 31);
-    altered(&mut words, 10, 12);
+    altered(&rt, &mut words, 10, 31)?;
+    altered(&rt, &mut words, 10, 12)?;
     // totals that are not the sums, and more than 32 bits
-    altered(&mut words, 0, 14);
-    altered(&mut words, 1, 2);
-    altered(&mut words, 2, 24);
-    altered(&mut words, 3, 4294967296);
+    altered(&rt, &mut words, 0, 14)?;
+    altered(&rt, &mut words, 1, 2)?;
+    altered(&rt, &mut words, 2, 24)?;
+    altered(&rt, &mut words, 3, 4294967296)?;
     // a Peer, and a Feeder twice
-    altered(&mut words, 14, 1);
-    altered(&mut words, 15, 7);
-    wrapped(&mut words);
+    altered(&rt, &mut words, 14, 1)?;
+    altered(&rt, &mut words, 15, 7)?;
+    wrapped(&rt, &mut words)?;
     // what no rule reads
-    altered(&mut words, 22, 5);
-    altered(&mut words, 25, 45);
-    end_line();
+    altered(&rt, &mut words, 22, 5)?;
+    altered(&rt, &mut words, 25, 45)?;
+    end_line(&rt)?;
     // a pair goes; a pair and a place go
-    expire(&mut words, 12);
-    expire(&mut words, 16);
+    expire(&rt, &mut words, 12)?;
+    expire(&rt, &mut words, 16)?;
     // back by two seconds, by three, and on
-    expire(&mut words, 14);
-    expire(&mut words, 13);
-    expire(&mut words, 26);
+    expire(&rt, &mut words, 14)?;
+    expire(&rt, &mut words, 13)?;
+    expire(&rt, &mut words, 26)?;
     // the last place goes; back by one at the cap, and by three
-    expire(&mut words, 4294967295);
-    expire(&mut words, 4294967294);
-    expire(&mut words, 4294967292);
+    expire(&rt, &mut words, 4294967295)?;
+    expire(&rt, &mut words, 4294967294)?;
+    expire(&rt, &mut words, 4294967292)?;
     // an unused place that is not 0
-    altered(&mut words, 33, 1);
-    end_line();
+    altered(&rt, &mut words, 33, 1)?;
+    end_line(&rt)
 }

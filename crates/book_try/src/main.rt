@@ -12,24 +12,23 @@ ghost use Rattle.book_try.specs.Fixed.{fixed};
 
 use model::{Deliverer, Draw, Limits, Second, Shares};
 use numbers::layout;
+use std::io;
 
 // The words of the class.
 const WORDS: usize = layout::CLASS_HEAD + 4 * (2 * 2 + layout::PLACE_HEAD);
 
-fn print(n: u64, end: u8) {
-    io::print_decimal(1, n);
-    let line = [end];
-    io::write_all(1, &line);
+fn print(rt: &impl Print, n: u64, end: u8) -> io::Result<()> {
+    print!(rt; "{n}")?;
+    rt.write_all(&[end])
 }
 
-fn show(words: &[u64]) {
+fn show(rt: &impl Print, words: &[u64]) -> io::Result<()> {
     let mut i = 0;
     while i < words.len() {
-        print(words[i], b' ');
+        print(rt, words[i], b' ')?;
         i += 1;
     }
-    let line = [b'\n'];
-    io::write_all(1, &line);
+    rt.write_all(&[b'\n'])
 }
 
 fn number_of(d: Draw) -> u64 {
@@ -54,7 +53,7 @@ fn begin(words: &mut [u64])
 }
 
 // One draw of a Feeder; its answer is printed.
-fn take(words: &mut [u64], id: u64, second: u64)
+fn take(rt: &impl Print, words: &mut [u64], id: u64, second: u64) -> io::Result<()>
     requires { ClassIs fixed Feeders words.old × (second ≤ top32) }
     ensures { ClassIs fixed Feeders words.new }
 {
@@ -79,7 +78,7 @@ fn take(words: &mut [u64], id: u64, second: u64)
         Deliverer::Feeder(id),
         Second(second),
     );
-    print(number_of(d), b' ');
+    print(rt, number_of(d), b' ')
 }
 
 // One draw of a Feeder given back.
@@ -97,35 +96,35 @@ fn untake(words: &mut [u64], id: u64, second: u64)
 }
 
 // So many draws of one Feeder at one second.
-fn takes(words: &mut [u64], id: u64, second: u64, times: u64)
+fn takes(rt: &impl Print, words: &mut [u64], id: u64, second: u64, times: u64) -> io::Result<()>
     requires { ClassIs fixed Feeders words.old × (second ≤ top32) }
     ensures { ClassIs fixed Feeders words.new }
 {
     let mut i = 0;
     while i < times {
-        take(words, id, second);
+        take(rt, words, id, second)?;
         i += 1;
     }
-    show(words);
+    show(rt, words)
 }
 
-fn main() {
+fn main(rt: HostRuntime) -> io::Result<()> {
     let mut words = [0u64; WORDS];
     begin(&mut words);
-    takes(&mut words, 7, 20, 12);
-    takes(&mut words, 8, 10, 6);
-    takes(&mut words, 9, 30, 4);
-    takes(&mut words, 6, 5, 2);
+    takes(&rt, &mut words, 7, 20, 12)?;
+    takes(&rt, &mut words, 8, 10, 6)?;
+    takes(&rt, &mut words, 9, 30, 4)?;
+    takes(&rt, &mut words, 6, 5, 2)?;
     // two entries of place 9 and one of 7 come back, then 9 draws at another second
     untake(&mut words, 9, 30);
     untake(&mut words, 9, 30);
     untake(&mut words, 7, 20);
     untake(&mut words, 8, 10);
-    takes(&mut words, 9, 10, 1);
+    takes(&rt, &mut words, 9, 10, 1)?;
     // a second that is not listed; a pair that goes; a place that goes from the middle
     untake(&mut words, 9, 11);
     untake(&mut words, 9, 30);
-    show(&words);
+    show(&rt, &words)?;
     untake(&mut words, 9, 10);
-    show(&words);
+    show(&rt, &words)
 }

@@ -9,28 +9,27 @@ ghost use Rattle.std.specs.Prelude.{◌<◌};
 use generation::Dropped;
 use model::{Bucket, Room};
 use numbers::layout;
+use std::io;
 
 // The words of a generation of at most 8 slots, and of one of 128.
 const FEW: usize = 8 + layout::GENERATION_HEAD;
 
 const MANY: usize = 128 + layout::GENERATION_HEAD;
 
-fn print(n: u64, end: u8) {
-    io::print_decimal(1, n);
-    let line = [end];
-    io::write_all(1, &line);
+fn print(rt: &impl Print, n: u64, end: u8) -> io::Result<()> {
+    print!(rt; "{n}")?;
+    rt.write_all(&[end])
 }
 
 // The answer's code, then the words.
-fn show(says: u64, part: &[u64]) {
-    print(says, b':');
+fn show(rt: &impl Print, says: u64, part: &[u64]) -> io::Result<()> {
+    print(rt, says, b':')?;
     let mut i = 0;
     while i < part.len() {
-        print(part[i], b' ');
+        print(rt, part[i], b' ')?;
         i += 1;
     }
-    let line = [b'\n'];
-    io::write_all(1, &line);
+    rt.write_all(&[b'\n'])
 }
 
 // Inserts a fingerprint: 1 where it did, 2 where another bucket is held, 3 where there is no room, and 0 for unsound words.
@@ -96,60 +95,59 @@ fn sound(part: &[u64; MANY]) -> u64 {
 }
 
 // Prints whether they are sound with one slot changed and so many said to be held.
-fn show_crowd(first: usize, at: usize, word: u64, held: u64)
+fn show_crowd(rt: &impl Print, first: usize, at: usize, word: u64, held: u64) -> io::Result<()>
     requires { (first < 128) × (at < 128) }
 {
     let mut part = crowd(first);
     part[at + layout::GENERATION_HEAD] = word;
     part[1] = held;
     let says = sound(&part);
-    print(says, b' ');
+    print(rt, says, b' ')
 }
 
 // Those from `first` on, of which `next` is the slot behind the last, with a new fingerprint there, with one that is
 // held already, with the new one past an empty slot, with an empty slot among them, and with one too few said to be held.
-fn show_crowds(first: usize, next: usize, new: u64, known: u64)
+fn show_crowds(rt: &impl Print, first: usize, next: usize, new: u64, known: u64) -> io::Result<()>
     requires { (first < 128) × (next < 96) }
 {
-    show_crowd(first, next, 0, 95);
-    show_crowd(first, next, new, 96);
-    show_crowd(first, next, known, 96);
-    show_crowd(first, next + 1, new, 96);
-    show_crowd(first, 51, 0, 94);
-    show_crowd(first, next, 0, 94);
-    let line = [b'\n'];
-    io::write_all(1, &line);
+    show_crowd(rt, first, next, 0, 95)?;
+    show_crowd(rt, first, next, new, 96)?;
+    show_crowd(rt, first, next, known, 96)?;
+    show_crowd(rt, first, next + 1, new, 96)?;
+    show_crowd(rt, first, 51, 0, 94)?;
+    show_crowd(rt, first, next, 0, 94)?;
+    rt.write_all(&[b'\n'])
 }
 
-fn main() {
+fn main(rt: HostRuntime) -> io::Result<()> {
     let mut part = [0u64; FEW];
     let mut says = strike(&mut part, Bucket(120), 8, 100);
-    show(says, &part);
+    show(&rt, says, &part)?;
     says = strike(&mut part, Bucket(120), 16, 90);
-    show(says, &part);
+    show(&rt, says, &part)?;
     says = strike(&mut part, Bucket(120), 15, 110);
-    show(says, &part);
+    show(&rt, says, &part)?;
     says = strike(&mut part, Bucket(120), 15, 120);
-    show(says, &part);
+    show(&rt, says, &part)?;
     says = strike(&mut part, Bucket(120), 7, 105);
-    show(says, &part);
+    show(&rt, says, &part)?;
     says = strike(&mut part, Bucket(96), 7, 105);
-    show(says, &part);
+    show(&rt, says, &part)?;
     says = strike(&mut part, Bucket(120), 23, 105);
-    show(says, &part);
+    show(&rt, says, &part)?;
     says = strike(&mut part, Bucket(120), 31, 105);
-    show(says, &part);
+    show(&rt, says, &part)?;
     says = strike(&mut part, Bucket(120), 1, 105);
-    show(says, &part);
+    show(&rt, says, &part)?;
     says = strike(&mut part, Bucket(120), 31, 130);
-    show(says, &part);
+    show(&rt, says, &part)?;
     says = sweep(&mut part, Bucket(120));
-    show(says, &part);
+    show(&rt, says, &part)?;
     says = sweep(&mut part, Bucket(121));
-    show(says, &part);
+    show(&rt, says, &part)?;
     part[layout::GENERATION_HEAD + 5] = 5;
     says = strike(&mut part, Bucket(120), 5, 1);
-    show(says, &part);
-    show_crowds(0, 95, 131072, 128);
-    show_crowds(100, 67, 131172, 228);
+    show(&rt, says, &part)?;
+    show_crowds(&rt, 0, 95, 131072, 128)?;
+    show_crowds(&rt, 100, 67, 131172, 228)
 }

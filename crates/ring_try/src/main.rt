@@ -9,28 +9,27 @@ ghost use Rattle.ring.specs.Ring.{RingWords};
 use generation::Dropped;
 use model::{Bucket, Room};
 use numbers::layout;
+use std::io;
 
 // The words of a position, and of the ring.
 const WIDTH: usize = 4 + layout::GENERATION_HEAD;
 
 const WORDS: usize = 3 * WIDTH;
 
-fn print(n: u64, end: u8) {
-    io::print_decimal(1, n);
-    let line = [end];
-    io::write_all(1, &line);
+fn print(rt: &impl Print, n: u64, end: u8) -> io::Result<()> {
+    print!(rt; "{n}")?;
+    rt.write_all(&[end])
 }
 
 // The answer's code, then the words.
-fn show(says: u64, words: &[u64]) {
-    print(says, b':');
+fn show(rt: &impl Print, says: u64, words: &[u64]) -> io::Result<()> {
+    print(rt, says, b':')?;
     let mut i = 0;
     while i < words.len() {
-        print(words[i], b' ');
+        print(rt, words[i], b' ')?;
         i += 1;
     }
-    let line = [b'\n'];
-    io::write_all(1, &line);
+    rt.write_all(&[b'\n'])
 }
 
 // Whether these are the words of a well-formed ring.
@@ -102,41 +101,41 @@ fn sweep(words: &mut [u64], from: Bucket, through: Bucket) -> u64 {
     stamp_of(ring::sweep(words, 4, 3, from, through))
 }
 
-fn main() {
+fn main(rt: HostRuntime) -> io::Result<()> {
     let mut words = [0u64; WORDS];
     let mut says = strike(&mut words, Bucket(6), 7, 100);
-    show(says, &words);
+    show(&rt, says, &words)?;
     says = strike(&mut words, Bucket(7), 7, 300);
-    show(says, &words);
+    show(&rt, says, &words)?;
     says = strike(&mut words, Bucket(8), 5, 200);
-    show(says, &words);
+    show(&rt, says, &words)?;
     says = strike(&mut words, Bucket(9), 5, 200);
-    show(says, &words);
+    show(&rt, says, &words)?;
     says = strike(&mut words, Bucket(6), 11, 90);
-    show(says, &words);
+    show(&rt, says, &words)?;
     says = strike(&mut words, Bucket(6), 12, 90);
-    show(says, &words);
+    show(&rt, says, &words)?;
     says = strike(&mut words, Bucket(6), 13, 90);
-    show(says, &words);
+    show(&rt, says, &words)?;
     says = strike(&mut words, Bucket(6), 12, 80);
-    show(says, &words);
+    show(&rt, says, &words)?;
     says = look(&words, Bucket(6), 7);
-    show(says, &words);
+    show(&rt, says, &words)?;
     says = look(&words, Bucket(8), 7);
-    show(says, &words);
+    show(&rt, says, &words)?;
     says = look(&words, Bucket(8), 9);
-    show(says, &words);
+    show(&rt, says, &words)?;
     says = drop_bucket(&mut words, Bucket(9));
-    show(says, &words);
+    show(&rt, says, &words)?;
     says = drop_bucket(&mut words, Bucket(8));
-    show(says, &words);
+    show(&rt, says, &words)?;
     says = sweep(&mut words, Bucket(5), Bucket(7));
-    show(says, &words);
+    show(&rt, says, &words)?;
     says = strike(&mut words, Bucket(9), 5, 400);
-    show(says, &words);
+    show(&rt, says, &words)?;
     says = sweep(&mut words, Bucket(7), Bucket(10));
-    show(says, &words);
+    show(&rt, says, &words)?;
     words[2 * WIDTH + layout::GENERATION_HEAD] = 5;
     says = strike(&mut words, Bucket(6), 5, 1);
-    show(says, &words);
+    show(&rt, says, &words)
 }
