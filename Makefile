@@ -71,4 +71,4 @@ install: build/libstrikes.a
 	install -m 644 build/strikes.pc $(DESTDIR)$(PREFIX)/lib/pkgconfig/strikes.pc
 
 clean:
-	rm -rf build target
+	rm -rf build crates/*/out

@@ -69,7 +69,7 @@ FAULTS = [
     (TABLE, r"\(found, stamp\)", "(stamp, found)"),
     (TABLE, r"\bpending\(", "waiting("),
     (CODE, r"flag: u64,\s+floor: u64", "floor: u64, flag: u64"),
-    (CODE, r"#\[no_mangle\]\s", ""),
+    (CODE, r"#\[unsafe\(no_mangle\)\]\s", ""),
     (CODE, r"bytes: &\[u8\]", "bytes: &[u64]"),
     (CODE, r"out: &mut \[u64\]", "out: &mut [u64; 1]"),
     (WRAPPER, r"raw::sweep", "raw::swept"),
@@ -168,7 +168,7 @@ def members(text):
 
 def of_code(text):
     text = re.sub(r"//.*", "", text)
-    found = re.findall(r'#\[no_mangle\]\s+pub extern "C" fn strikes_(\w+)\(([^()]*)\)\s+->\s+u64\b', text)
+    found = re.findall(r'#\[unsafe\(no_mangle\)\]\s+pub extern "C" fn strikes_(\w+)\(([^()]*)\)\s+->\s+u64\b', text)
     for word in ["no_mangle", 'extern "C"']:
         if text.count(word) != len(found):
             raise Unread(f"{CODE}: `{word}` stands before something else than an entry point that returns u64")

@@ -5,9 +5,9 @@
 
 A fault is a list of edits, each a file, an anchor that must stand in it exactly once, and what stands in its place: the faults of
 tests/oracle/faults.py, put into the register, and misreadings of what the Rust has not: the rule behind a verdict, and the smallest stamp
-for one. The proofs would refuse each of them, so the copy is run by `rt try`, which proves nothing; `rt try` compares what crates/replay
-writes with its file `stdout`. Its interpreter takes no list of this length, so that what counts is the program compiled at -O3. Status 0
-only if the source without a fault agrees and every fault is noticed.
+for one. The proofs would refuse each of them, so the copy is run by `rt try`, which proves nothing, and what
+crates/replay writes is compared with its file `stdout`. The interpreter of `rt try` takes no list of this length, so that what counts is
+the compiled program. Status 0 only if the source without a fault agrees and every fault is noticed.
 """
 
 import shutil
@@ -137,14 +137,20 @@ def put_in(edits):
 
 
 def tried():
-    """What `rt try` says of the program at -O3: whether it wrote what is expected, and its line."""
-    run = subprocess.run(["rt", "try", "replay"], cwd=COPY, capture_output=True, text=True)
-    lines = (run.stdout + run.stderr).splitlines()
-    for at, line in enumerate(lines):
-        if "-O3" in line:
-            after = lines[at + 1] if at + 1 < len(lines) and not line.startswith("ok") else ""
-            return line.startswith("ok"), f"{line} {after}"
-    sys.exit("faults.py: rt try did not run the program: " + "\n".join(lines)[:2000])
+    """Whether the compiled program ends and writes what is expected, and the first line in which it does not."""
+    crate = COPY / "crates" / "replay"
+    with open(crate / "stdin") as lists:
+        run = subprocess.run(["rt", "try"], cwd=crate, stdin=lists, capture_output=True, text=True)
+    expected = (crate / "stdout").read_text().splitlines()
+    lines = run.stdout.splitlines()
+    wrote, said = lines[: len(expected)], lines[len(expected) :]
+    if not any(line.startswith(("checked:", "run=")) for line in lines):
+        sys.exit("faults.py: rt try did not run the program: " + (run.stdout + run.stderr)[:2000])
+    for at, (line, wanted) in enumerate(zip(wrote, expected)):
+        if line != wanted:
+            return False, f"line {at + 1}: {line[:60]} for {wanted[:60]}"
+    ended = len(wrote) == len(expected) and "checked: ended status=0" in said
+    return ended, "as recorded" if ended else "the program did not end: " + " ".join(said)[:100]
 
 
 def main():

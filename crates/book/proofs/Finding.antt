@@ -37,7 +37,7 @@ use Rattle.book.specs.Rules.{if_none, room_by, decided, names_by}
 use Rattle.book.specs.PlaceRules.{Wide, seen_in}
 use Rattle.book.specs.ClassRules.{ClassIs, ClassReads, place_index, spot_of, Found}
 use Rattle.pairs.proofs.PairLists.{listed_at}
-use Rattle.book.proofs.ClassWords.{nobody, reads_one, ps, few, holders_are, here, here_ok, seen_here, word_here}
+use Rattle.book.proofs.ClassWords.{nobody, reads_one, ps, holders_are, here, here_ok, seen_here, word_here}
 use Rattle.book.proofs.ClassLists.{names_same, entries_at, pairs_at, entries_none, pairs_none}
 
 -- ---- sums that are small

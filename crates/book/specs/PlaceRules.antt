@@ -1,5 +1,5 @@
 -- One place: what its words say of a second, and which places a function on a place's words may be given.
-use Rattle.std.specs.Prelude.{ℕ, ◌+◌, ◌-◌, ◌≤◌, ◌<◌, ◌≡◌, true, List, ◌∷◌, ◌++◌, length, get_or, drop}
+use Rattle.std.specs.Prelude.{ℕ, ◌-◌, ◌≤◌, ◌<◌, ◌≡◌, true, List, ◌∷◌, ◌++◌, length, get_or, drop}
 use Rattle.model.specs.declared.Deliverer.{Deliverer}
 use Rattle.model.specs.Widths.{place_head, place_width}
 use Rattle.model.specs.Class.{kind_of}

@@ -15,7 +15,7 @@ use Rattle.runs.specs.Turns.{Is, Turns}
 use Rattle.runs.proofs.Chunks.{flat_append}
 use Rattle.runs.proofs.Each.{each_at}
 use Rattle.model.specs.Widths.{class_head, place_head, place_width}
-use Rattle.model.specs.Book.{Pair, Place, total, entries, entries_in, place_units, units, with_pairs, later_pairs, later_places}
+use Rattle.model.specs.Book.{Pair, Place, total, entries_in, place_units, units, with_pairs, later_pairs, later_places}
 use Rattle.model.specs.BookWords.{most_entries, encode_place, PlaceOk}
 use Rattle.model.proofs.BookWords.{read_flat, named_back}
 use Rattle.model.proofs.Pairs.{length_later, total_later}

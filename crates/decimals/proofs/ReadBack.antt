@@ -7,7 +7,7 @@ use lib.ListN.{length}
 use borrow.Author.Tests.{le-leb}
 use Rattle.decimals.specs.declared.Number.{Number}
 use Rattle.decimals.specs.declared.Number.TheVariants.{Is}
-use Rattle.decimals.specs.Texts.{with_digit, with_digits, number_of, last_digit, digits, text_of}
+use Rattle.decimals.specs.Texts.{with_digit, with_digits, last_digit, digits, text_of}
 use Rattle.decimals.specs.ReadBack.{ReadBack, TwentyAtMost}
 use Rattle.decimals.proofs.Reading.{number_some}
 use Rattle.decimals.proofs.Writing.{by_digits, digits_short, digits_long, length_short, length_long}

@@ -1,6 +1,5 @@
-// A dump reader: the lent bytes of a dump, and the position of a word in them. The borrow checker covers no function over such
-// a struct, so there are few of them, each thin: `word` leaves the work to `octets::word`. Whoever reads a dump calls `read`,
-// whose parameters are plain.
+// A dump reader: the lent bytes of a dump, and the position of a word in them. It is thin: `word` leaves the work to
+// `octets::word`. Whoever reads a dump calls `read`, whose parameters are plain.
 ghost use Rattle.std.specs.Prelude.{◌≡◌, ◌+◌, ◌/◌, ◌<◌, length, get_or};
 ghost use Rattle.model.specs.Dump.{words_of};
 

@@ -11,7 +11,6 @@ use Rattle.model.specs.declared.Deliverer.{Deliverer}
 use Rattle.model.specs.declared.Draw.{Draw}
 use Rattle.model.specs.declared.Draw.TheVariants.{Granted, Closed, OwnShare, ClassLimit, EqualPart, TwiceLimit, Places, Pairs}
 use Rattle.model.specs.declared.Reason.{Reason}
-use Rattle.model.specs.declared.Reason.TheVariants as Reason
 use Rattle.model.specs.declared.Room.{Room}
 use Rattle.model.specs.declared.Room.TheVariants.{At, Collides, Full as NoSlots}
 use Rattle.model.specs.declared.Shares.{Shares}

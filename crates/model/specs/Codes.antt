@@ -3,7 +3,6 @@ use Rattle.std.specs.Prelude.{ℕ, Bool, true, false, cond, List, [], ◌∷◌,
 use Rattle.model.specs.declared.Verdict.{Verdict}
 use Rattle.model.specs.declared.Verdict.TheVariants.{New, Duplicate, Late, Ahead, Full, Unjudged}
 use Rattle.model.specs.declared.Reason.{Reason}
-use Rattle.model.specs.declared.Reason.TheVariants as Reason
 use Rattle.model.specs.declared.Start.{Start}
 use Rattle.model.specs.declared.Start.TheVariants.{Empty, Fallback, At}
 use Rattle.model.specs.declared.Draw.{Draw}

@@ -1,20 +1,18 @@
 -- Of the words of a well-formed register, what the code writes is the model's view, and its length that of the model's.
-use Prim.Native.Nat.{ℕ, ◌+◌, ◌*◌, ◌≤◌}
+use Prim.Native.Nat.{ℕ, ◌+◌, ◌*◌}
 use native.Mathlib.Omega.{arith}
-use mathlib.Core.Path.{◌≡◌, refl, sym, ap, ◌∙◌}
-use mathlib.Core.List.{List, [], ◌∷◌, ◌++◌}
-use lib.Dec.{eqb}
-use lib.ListN.{length, drop, length-append}
+use mathlib.Core.Path.{◌≡◌, refl, ap, ◌∙◌}
+use mathlib.Core.List.{List, ◌++◌}
+use lib.ListN.{length, length-append}
 use Rattle.runs.specs.Chunks.{flat}
 use Rattle.runs.specs.Combine.{EachOk}
 use Rattle.runs.specs.Over.{written}
 use Rattle.runs.proofs.Over.{flat_itself}
-use Rattle.runs.proofs.Cases.{by_test}
 use Rattle.runs.proofs.Chunks.{flat_append, length_flat}
 use Rattle.model.specs.declared.Usable.{Usable}
 use Rattle.model.specs.Widths.{generation_width}
 use Rattle.model.specs.Settings.{ring_of}
-use Rattle.model.specs.Generation.{Generation, count}
+use Rattle.model.specs.Generation.{Generation}
 use Rattle.model.specs.GenerationWords.{encode_generation, GenerationOk}
 use Rattle.model.specs.Register.{Register}
 use Rattle.model.specs.RegisterWords.{register_form}
@@ -22,9 +20,9 @@ use Rattle.model.specs.Dump.{held_list}
 use Rattle.model.specs.RawViews.{generation_view, register_view}
 use Rattle.model.specs.Calls.{written_over}
 use Rattle.register.specs.Words.{RegisterWords, RegisterReads}
-use Rattle.dump.specs.Parts.{parts_held, ring_at}
+use Rattle.dump.specs.Parts.{parts_held}
 use Rattle.dump.specs.Outputs.{Holds, Outputs}
-use Rattle.dump.proofs.Dumped.{if_held, parts_are, held_are, words_of_ring, feeders, peers, own}
+use Rattle.dump.proofs.Dumped.{if_held, parts_are, held_are, feeders, peers, own}
 use Rattle.register_view.specs.Views.{Fits, Puts, part_view, parts_view, register_parts, held_parts}
 
 -- ---- one generation, and a ring

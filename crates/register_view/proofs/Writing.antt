@@ -1,5 +1,5 @@
 -- A generation's four words, a ring's generations and a register's three rings, as the code writes them.
-use Prim.Native.Nat.{ℕ, ◌+◌, ◌-◌, ◌*◌, ◌<◌, ◌≤◌}
+use Prim.Native.Nat.{ℕ, ◌+◌, ◌-◌, ◌<◌, ◌≤◌}
 use native.Mathlib.Omega.{arith}
 use mathlib.Core.Path.{◌≡◌, refl, sym, ap, ◌∙◌}
 use mathlib.Core.List.{List, [], ◌∷◌, ◌++◌}
@@ -12,7 +12,7 @@ use Rattle.runs.proofs.Over.{one_then, written_none, puts_none, Writes as Writes
 use Rattle.runs.proofs.Over as over
 use Rattle.generation.specs.declared.Generation.{Generation as Leading}
 use Rattle.generation.specs.Words.{Leads}
-use Rattle.dump.specs.Parts.{parts, parts_held, ring_at}
+use Rattle.dump.specs.Parts.{parts, parts_held}
 use Rattle.dump.proofs.Dumping.{words_step, held_few, feeders_lent, peers_lent, own_lent, feeders_are, peers_are, own_are}
 use Rattle.register_view.specs.Views.{Fits, Puts, part_view, parts_view, register_parts, held_parts}
 

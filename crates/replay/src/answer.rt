@@ -1,10 +1,10 @@
 // Writes an answer as a line of numbers.
-ghost use Rattle.std.specs.Prelude.{◌+◌, ◌≤◌, ◌<◌, length};
+ghost use Rattle.std.specs.Prelude.{◌+◌, ◌≤◌, ◌<◌, length, IfOk};
 
 use crate::line;
-use libc::STDOUT_FILENO;
 use model::Answer;
 use numbers::codes;
+use std::io;
 
 // What a line says: the answer to its call, or nothing, since it is no call.
 #[derive(Clone, Copy)]
@@ -14,26 +14,26 @@ pub enum Said {
 }
 
 // Writes what a line says. Of a dump, `bytes` starts with what it wrote, and of a view `view`.
-pub(crate) fn tell(said: Said, bytes: &[u8], view: &[u64]) {
+pub(crate) fn tell(rt: &impl Print, said: Said, bytes: &[u8], view: &[u64]) -> io::Result<()> {
     match said {
-        Said::Told(answer) => tell_answer(answer, bytes, view),
-        Said::Unread => tell_unread(),
+        Said::Told(answer) => tell_answer(rt, answer, bytes, view),
+        Said::Unread => tell_unread(rt),
     }
 }
 
 // Writes the line of a line that is no call.
-pub(crate) fn tell_unread() {
-    io::write_all(STDOUT_FILENO, b"unread\n");
+pub(crate) fn tell_unread(rt: &impl Print) -> io::Result<()> {
+    rt.write_all(b"unread\n")
 }
 
-fn tell_answer(answer: Answer, bytes: &[u8], view: &[u64]) {
+fn tell_answer(rt: &impl Print, answer: Answer, bytes: &[u8], view: &[u64]) -> io::Result<()> {
     let mut text = [0u8; 4096];
     let at = put_answer(answer, &mut text);
     let n = line::most(dumped(answer), bytes.len());
-    let next = put_bytes(&bytes[0..n], &mut text, at);
+    let next = put_bytes(rt, &bytes[0..n], &mut text, at)?;
     let m = line::most(viewed(answer), view.len());
-    let end = put_words(&view[0..m], &mut text, next);
-    end_line(&mut text, end);
+    let end = put_words(rt, &view[0..m], &mut text, next)?;
+    end_line(rt, &mut text, end)
 }
 
 // How many bytes a dump wrote; 0 of any other answer.
@@ -124,58 +124,63 @@ fn wide(b: u8) -> u64 {
 }
 
 // Puts bytes behind what the text has, and returns the place behind the last number. A text that is full is written and starts anew.
-fn put_bytes(bytes: &[u8], text: &mut [u8; 4096], from: usize) -> usize
+fn put_bytes(rt: &impl Print, bytes: &[u8], text: &mut [u8; 4096], from: usize) -> io::Result<usize>
     requires { (0 < from) × (from ≤ 4096) }
-    ensures { (0 < result) × (result ≤ 4096) }
+    ensures { IfOk result (λ n. (0 < n) × (n ≤ 4096)) }
 {
     let mut at = from;
     let mut i = 0;
     while i < bytes.len() {
-        let free = make_room(text, at);
+        let free = make_room(rt, text, at)?;
         at = put(text, free, wide(bytes[i]));
         i += 1;
     }
-    at
+    Ok(at)
 }
 
 // The same of words.
-fn put_words(words: &[u64], text: &mut [u8; 4096], from: usize) -> usize
+fn put_words(
+    rt: &impl Print,
+    words: &[u64],
+    text: &mut [u8; 4096],
+    from: usize,
+) -> io::Result<usize>
     requires { (0 < from) × (from ≤ 4096) }
-    ensures { (0 < result) × (result ≤ 4096) }
+    ensures { IfOk result (λ n. (0 < n) × (n ≤ 4096)) }
 {
     let mut at = from;
     let mut i = 0;
     while i < words.len() {
-        let free = make_room(text, at);
+        let free = make_room(rt, text, at)?;
         at = put(text, free, words[i]);
         i += 1;
     }
-    at
+    Ok(at)
 }
 
 // Returns a place with room for a number, which is where the text ends, or its start.
-fn make_room(text: &[u8; 4096], at: usize) -> usize
+fn make_room(rt: &impl Print, text: &[u8; 4096], at: usize) -> io::Result<usize>
     requires { at ≤ 4096 }
-    ensures { result + 21 ≤ 4096 }
+    ensures { IfOk result (λ n. n + 21 ≤ 4096) }
 {
     if at <= 4075 {
-        return at;
+        return Ok(at);
     }
-    write_to(text, at);
-    0
+    write_to(rt, text, at)?;
+    Ok(0)
 }
 
 // Writes the text, whose last blank becomes the end of the line.
-fn end_line(text: &mut [u8; 4096], at: usize)
+fn end_line(rt: &impl Print, text: &mut [u8; 4096], at: usize) -> io::Result<()>
     requires { (0 < at) × (at ≤ 4096) }
 {
     text[at - 1] = b'\n';
-    write_to(text, at);
+    write_to(rt, text, at)
 }
 
 // Writes the text up to a place.
-fn write_to(text: &[u8], end: usize)
+fn write_to(rt: &impl Print, text: &[u8], end: usize) -> io::Result<()>
     requires { end ≤ length text.now }
 {
-    io::write_all(STDOUT_FILENO, &text[0..end]);
+    rt.write_all(&text[0..end])
 }

@@ -1,8 +1,9 @@
 // The list on the standard input, line by line.
-ghost use Rattle.std.specs.Prelude.{◌≤◌, length};
+ghost use Rattle.std.specs.Prelude.{◌≤◌, length, IfOk};
 
 use crate::{answer, line, run};
-use libc::STDIN_FILENO;
+use std::io;
+use std::io::Read;
 
 // The bytes from `at` to `have` of the buffer have been read and wait for their turn. The input may have ended, and the line that is being
 // read may be one that the buffer does not hold, of which the rest is passed over.
@@ -13,11 +14,6 @@ pub struct Waiting {
     pub ended: bool,
     pub long: bool,
     pub done: bool,
-}
-
-fn read_some(out: &mut [u8]) -> usize {
-    let got = libc::read(STDIN_FILENO, out);
-    io::count(got, out)
 }
 
 // Moves the bytes from `at` to `have` to the start.
@@ -33,36 +29,36 @@ fn move_down(buffer: &mut [u8], at: usize, have: usize)
 }
 
 // Reads on. A line that fills the buffer is given up.
-fn refill(buffer: &mut [u8], w: Waiting) -> Waiting
+fn refill(input: &mut impl Read, buffer: &mut [u8], w: Waiting) -> io::Result<Waiting>
     requires { (w.at ≤ w.have) × (w.have ≤ length buffer.old) }
-    ensures { (result.at ≤ result.have) × (result.have ≤ length buffer.new) }
+    ensures { IfOk result (λ r. (r.at ≤ r.have) × (r.have ≤ length buffer.new)) }
 {
     let at = w.at;
     let have = w.have;
     if have - at == buffer.len() {
-        return Waiting {
+        return Ok(Waiting {
             at: 0,
             have: 0,
             ended: false,
             long: true,
             done: false,
-        };
+        });
     }
     move_down(buffer, at, have);
     let left = have - at;
-    let got = read_some(&mut buffer[left..]);
-    let more = line::least(got, buffer.len() - left);
-    Waiting {
+    let got = input.read(&mut buffer[left..])?;
+    Ok(Waiting {
         at: 0,
-        have: left + more,
+        have: left + got,
         ended: got == 0,
         long: w.long,
         done: false,
-    }
+    })
 }
 
 // Serves a line, of which the start is missing where it was too long, and returns how many words are lent from then on.
 fn serve(
+    rt: &impl Print,
     text: &[u8],
     long: bool,
     words: &mut [u64],
@@ -70,13 +66,13 @@ fn serve(
     next: &mut [u64],
     bytes: &mut [u8],
     lent: u64,
-) -> u64 {
+) -> io::Result<u64> {
     let mut args = [0u64; 64];
     let mut view = [0u64; 3072];
     let read = line::read(text, &mut args, bytes);
     if long | !read.ok {
-        answer::tell_unread();
-        return lent;
+        answer::tell_unread(rt)?;
+        return Ok(lent);
     }
     let ran = run::run(
         read.code,
@@ -90,12 +86,13 @@ fn serve(
         lent,
     );
     let said = ran.said;
-    answer::tell(said, bytes, &view);
-    ran.lent
+    answer::tell(rt, said, bytes, &view)?;
+    Ok(ran.lent)
 }
 
 // Serves what the input ends with, if it does not end with a whole line.
 fn serve_last(
+    rt: &impl Print,
     text: &[u8],
     long: bool,
     words: &mut [u64],
@@ -103,11 +100,11 @@ fn serve_last(
     next: &mut [u64],
     bytes: &mut [u8],
     lent: u64,
-) -> u64 {
+) -> io::Result<u64> {
     if (text.len() == 0) & !long {
-        return lent;
+        return Ok(lent);
     }
-    serve(text, long, words, kept, next, bytes, lent)
+    serve(rt, text, long, words, kept, next, bytes, lent)
 }
 
 #[derive(Clone, Copy)]
@@ -118,6 +115,8 @@ pub struct Turned {
 
 // One turn: serves a line that is there, else reads on.
 fn turn(
+    rt: &impl Print,
+    input: &mut impl Read,
     buffer: &mut [u8],
     w: Waiting,
     words: &mut [u64],
@@ -125,17 +124,17 @@ fn turn(
     next: &mut [u64],
     bytes: &mut [u8],
     lent: u64,
-) -> Turned
+) -> io::Result<Turned>
     requires { (w.at ≤ w.have) × (w.have ≤ length buffer.old) }
-    ensures { (result.waiting.at ≤ result.waiting.have) × (result.waiting.have ≤ length buffer.new) }
+    ensures { IfOk result (λ r. (r.waiting.at ≤ r.waiting.have) × (r.waiting.have ≤ length buffer.new)) }
 {
     let at = w.at;
     let have = w.have;
-    let end = bytes::scan::find(buffer, at, have, b'\n');
+    let end = line::find(buffer, at, have, b'\n');
     if end < have {
         let after = end + 1;
-        let l = serve(&buffer[at..end], w.long, words, kept, next, bytes, lent);
-        return Turned {
+        let l = serve(rt, &buffer[at..end], w.long, words, kept, next, bytes, lent)?;
+        return Ok(Turned {
             waiting: Waiting {
                 at: after,
                 have: have,
@@ -144,11 +143,20 @@ fn turn(
                 done: false,
             },
             lent: l,
-        };
+        });
     }
     if w.ended {
-        let l = serve_last(&buffer[at..have], w.long, words, kept, next, bytes, lent);
-        return Turned {
+        let l = serve_last(
+            rt,
+            &buffer[at..have],
+            w.long,
+            words,
+            kept,
+            next,
+            bytes,
+            lent,
+        )?;
+        return Ok(Turned {
             waiting: Waiting {
                 at: 0,
                 have: 0,
@@ -157,23 +165,25 @@ fn turn(
                 done: true,
             },
             lent: l,
-        };
+        });
     }
-    let q = refill(buffer, w);
-    Turned {
+    let q = refill(input, buffer, w)?;
+    Ok(Turned {
         waiting: q,
         lent: lent,
-    }
+    })
 }
 
 // Replays the whole list. Nothing says that the input ends, so the turns are counted down, from a number that no run uses up.
 pub(crate) fn replay(
+    rt: &impl Print,
+    input: &mut impl Read,
     buffer: &mut [u8],
     words: &mut [u64],
     kept: &mut [u64],
     next: &mut [u64],
     bytes: &mut [u8],
-) {
+) -> io::Result<()> {
     let mut w = Waiting {
         at: 0,
         have: 0,
@@ -184,12 +194,13 @@ pub(crate) fn replay(
     let mut lent = words.len() as u64;
     let mut turns = u64::MAX;
     while 0 < turns {
-        let t = turn(buffer, w, words, kept, next, bytes, lent);
+        let t = turn(rt, input, buffer, w, words, kept, next, bytes, lent)?;
         w = t.waiting;
         lent = t.lent;
         if w.done {
-            return;
+            return Ok(());
         }
         turns -= 1;
     }
+    Ok(())
 }

@@ -2,6 +2,7 @@
 ghost use Rattle.std.specs.Prelude.{◌≡◌, ◌≤◌, length};
 
 use decimals::Number;
+use memchr::memchr;
 
 // A number of a line, and the place behind it and its blank. `ok`: there is a number.
 #[derive(Clone, Copy)]
@@ -43,6 +44,17 @@ pub(crate) fn most(n: u64, len: usize) -> usize
     least(n as usize, len)
 }
 
+// Returns the first place of a byte from a place to an end, or that end where there is none.
+pub(crate) fn find(text: &[u8], from: usize, end: usize, byte: u8) -> usize
+    requires { (from ≤ end) × (end ≤ length text.now) }
+    ensures { (from ≤ result) × (result ≤ end) }
+{
+    match memchr(byte, &text[from..end]) {
+        Some(at) => from + at,
+        None => end,
+    }
+}
+
 // Returns the place behind a blank, or the end of the line.
 fn behind(end: usize, len: usize) -> usize
     requires { end ≤ len }
@@ -77,7 +89,7 @@ fn number_at(text: &[u8], from: usize) -> Found
     requires { from ≤ length text.now }
     ensures { result.next ≤ length text.now }
 {
-    let end = bytes::scan::find(text, from, text.len(), b' ');
+    let end = find(text, from, text.len(), b' ');
     let next = behind(end, text.len());
     number_before(decimals::read(&text[from..end]), next)
 }

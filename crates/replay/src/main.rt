@@ -20,13 +20,18 @@ mod input;
 mod line;
 mod run;
 
+use std::io;
+
 // Lends 100,000 words, and 8 bytes for each of them: more than any dump of a register in so many words. A line of more than 1,638,400
 // bytes, which brings 400,000 bytes or more, is not read.
-fn main() {
+fn main(rt: HostRuntime) -> io::Result<()> {
     let mut words = [0u64; 100000];
     let mut kept = [0u64; 29];
     let mut next = [0u64; 29];
     let mut bytes = [0u8; 800000];
     let mut lines = [0u8; 1638400];
-    input::replay(&mut lines, &mut words, &mut kept, &mut next, &mut bytes);
+    let mut stdin = rt.stdin();
+    input::replay(
+        &rt, &mut stdin, &mut lines, &mut words, &mut kept, &mut next, &mut bytes,
+    )
 }

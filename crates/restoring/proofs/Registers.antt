@@ -2,14 +2,11 @@
 use Prim.Native.Nat.{ℕ, ◌-◌, ◌<◌, ◌≤◌}
 use mathlib.Core.Path.{◌≡◌, refl, sym, ap, subst, ◌∙◌}
 use mathlib.Core.Bool.{Bool, true, false}
-use mathlib.Core.List.{List, [], ◌∷◌}
+use mathlib.Core.List.{List, []}
 use mathlib.Core.Option.{none}
-use types.Run.{OneOf}
-use denote.Enum.Declared.{tag_of}
 use borrow.Rule.Slice.PartMut.{mid_of, put_mid}
 use Rattle.runs.specs.Turns.{silent}
 use Rattle.model.specs.RegisterWords.{register_form}
-use Rattle.model.specs.contracts.Room.{the_type}
 use Rattle.model.specs.declared.Class.{Class}
 use Rattle.model.specs.declared.Room.{Room}
 use Rattle.model.specs.declared.Room.TheVariants.{At, Collides, Full as NoSlots}

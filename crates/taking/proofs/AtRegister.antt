@@ -9,7 +9,6 @@ use Rattle.model.specs.declared.Room.{Room}
 use Rattle.model.specs.declared.Settings.{Settings}
 use Rattle.model.specs.declared.Usable.{Usable}
 use Rattle.model.specs.declared.Verdict.{Verdict}
-use Rattle.model.specs.Settings.{usable_at}
 use Rattle.model.specs.Class.{class_of, pick}
 use Rattle.model.specs.Register.{strike}
 use Rattle.model.specs.Judge.{Ask, make_room}

@@ -2,13 +2,8 @@
 use Prim.Native.Nat.{ℕ, ◌<◌}
 use mathlib.Core.Path.{◌≡◌, refl, sym, ap, ◌∙◌}
 use mathlib.Core.Bool.{Bool, true, false, cond}
-use mathlib.Core.List.{List, [], ◌∷◌}
-use mathlib.Core.Logic.{inl, inr}
-use native.Mathlib.Omega.{arith}
-use types.Run.{OneOf}
-use denote.Enum.Declared.{tag_of}
+use mathlib.Core.List.{List}
 use Rattle.runs.specs.Turns.{silent}
-use Rattle.model.specs.contracts.Room.{the_type}
 use lib.Seq.{get_or-set_same, set-get_or, set-set}
 use Rattle.runs.proofs.Cases.{by_test, no}
 use Rattle.model.specs.declared.Draw.{Draw}

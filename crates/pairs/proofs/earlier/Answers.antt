@@ -1,5 +1,4 @@
 use Rattle.pairs.proofs.PairWords.{walked_none, walked_all, walked_stop, sum_fits, walked_on}
-use Rattle.model.specs.Book.{entries}
 use Rattle.model.specs.BookWords.{most_entries}
 use native.Mathlib.Omega.{arith}
 use Rattle.pairs.proofs.earlier.Goals as goal

@@ -1,6 +1,5 @@
 use Prim.Native.Nat.{◌-◌}
 use Rattle.pairs.proofs.PairWords.{Walked}
-use Rattle.model.specs.Book.{entries}
 use Rattle.pairs.proofs.earlier.Given as goal
 
 abbrev pub invariant-loop-i : goal.invariant-loop-i

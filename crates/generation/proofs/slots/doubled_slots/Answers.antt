@@ -1,7 +1,6 @@
 use Prim.Native.Nat.{suc, ◌*◌, ◌<◌, ◌≤◌}
 use native.Mathlib.Omega.{arith}
 use mathlib.Core.Path.{sym, ◌∙◌}
-use mathlib.Core.Bool.{false}
 use Rattle.generation.specs.Slots.{slots_after}
 use Rattle.generation.proofs.Doubling.{doubled_on, doubled_end}
 use Rattle.generation.proofs.slots.doubled_slots.Goals as goal

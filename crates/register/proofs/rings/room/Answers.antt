@@ -1,5 +1,4 @@
 use Rattle.register.proofs.InRings.{ring_asks, room_reads}
-use Rattle.ring.proofs.room.Reads as room_reads
 use Rattle.register.proofs.rings.room.Goals as goal
 
 pub room-requires : goal.room-requires
