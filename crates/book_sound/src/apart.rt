@@ -1,6 +1,6 @@
 // Deliverers of a class are distinct.
 ghost use Rattle.std.specs.Prelude.{◌≡◌, ◌≤◌};
-ghost use Rattle.model.specs.BookWords.{read_who, has_place, distinct as distinct-rule};
+ghost use Rattle.model.specs.BookWords.{read_who, has_place, distinct as distinct_rule};
 ghost use Rattle.book_sound.specs.PlaceAt.{Within, read_from};
 
 use crate::{place, placing};
@@ -34,7 +34,7 @@ fn has_from(body: &[u64], shares: Shares, class: Class, from: usize, kind: u64, 
 // Each used place has a deliverer that no later one has.
 pub fn distinct(body: &[u64], shares: Shares, class: Class) -> bool
     requires { Within shares body.now }
-    ensures { result ≡ distinct-rule (read_from shares class 0 body.now) }
+    ensures { result ≡ distinct_rule (read_from shares class 0 body.now) }
 {
     let width = starts::place_width(shares);
     let mut i = 0;

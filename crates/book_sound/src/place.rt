@@ -2,7 +2,7 @@
 ghost use Rattle.std.specs.Prelude.{◌≡◌, ◌≤◌, length};
 ghost use Rattle.model.specs.Widths.{place_head, place_width};
 ghost use Rattle.model.specs.Class.{same_deliverer};
-ghost use Rattle.model.specs.BookWords.{kind_sound as kind-rule, place_sound as place-rule, read_who, used_place};
+ghost use Rattle.model.specs.BookWords.{kind_sound as kind_rule, place_sound as place_rule, read_who, used_place};
 
 use model::Class;
 use numbers::bounds::MOST_ENTRIES;
@@ -10,7 +10,7 @@ use numbers::{codes, layout};
 
 // A deliverer of that class, or a restored one, by its kind.
 fn kind_sound(class: Class, kind: u64) -> bool
-    ensures { result ≡ kind-rule class kind }
+    ensures { result ≡ kind_rule class kind }
 {
     let own = codes::class_number(class);
     (kind == codes::RESTORED) | (kind == own)
@@ -19,7 +19,7 @@ fn kind_sound(class: Class, kind: u64) -> bool
 // A used place is sound: the cells of its pairs lie within it before they are read.
 pub fn place_sound(place: &[u64], pairs: u64, class: Class) -> bool
     requires { (pairs ≤ 512) × (length place.now ≡ place_width pairs) }
-    ensures { result ≡ place-rule class pairs place.now }
+    ensures { result ≡ place_rule class pairs place.now }
 {
     let kind = kind_sound(class, place[layout::PLACE_KIND]);
     let entries = place[layout::PLACE_ENTRIES];

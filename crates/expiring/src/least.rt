@@ -1,8 +1,8 @@
 // The least of all published sweeps: what expire may let go of.
 ghost use Rattle.std.specs.Prelude.{◌<◌};
 ghost use Rattle.model.specs.Settings.{usable_at};
-ghost use Rattle.model.specs.Register.{published as published-for};
-ghost use Rattle.model.specs.Calls.{register_at, least_published as least-of-all};
+ghost use Rattle.model.specs.Register.{published as published_for};
+ghost use Rattle.model.specs.Calls.{register_at, least_published as least_of_all};
 ghost use Rattle.taking.specs.Words.{RunWords, StateReads};
 
 use model::{Judged, Settings};
@@ -11,7 +11,7 @@ use numbers::{capped, starts};
 // The sweep that a register publishes.
 fn published(run: &[u64], s: Settings, r: usize) -> Judged
     requires { RunWords s run.now × (r < s.registers) }
-    ensures { StateReads s (λ t. published-for (usable_at s r) (register_at r t).swept) run.now result.0 }
+    ensures { StateReads s (λ t. published_for (usable_at s r) (register_at r t).swept) run.now result.0 }
 {
     let at = starts::register_extent(s, r);
     let a = at.start;
@@ -22,7 +22,7 @@ fn published(run: &[u64], s: Settings, r: usize) -> Judged
 // The least of a reading and what each register publishes.
 pub fn least_published(run: &[u64], s: Settings, reading: Judged) -> Judged
     requires { RunWords s run.now }
-    ensures { StateReads s (λ t. least-of-all s 0 t.registers reading.0) run.now result.0 }
+    ensures { StateReads s (λ t. least_of_all s 0 t.registers reading.0) run.now result.0 }
 {
     let n = s.registers as usize;
     let mut least = reading.0;

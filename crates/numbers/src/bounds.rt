@@ -1,6 +1,6 @@
 // Settings and limits: read from the words that a host hands in, tested against their bounds, and the words that they need.
 ghost use Rattle.std.specs.Prelude.{◌≡◌, true, cond, ◌<◌, ◌≤◌, length};
-ghost use Rattle.model.specs.Settings.{usable_of as usable-in, usable_below as usable-read, no_usable as no-settings, settings_of as settings_in, limits_of as limits_in, usable_at, power_of_two, window_fit as window-within, usable_fit as usable-within, shares_fit as shares_within, limits_fit as limits-within, settings_fit as settings_within, fit_at, register_words, words_for, book_words as places-words, words_needed as needed};
+ghost use Rattle.model.specs.Settings.{usable_of as usable_from, usable_below as usable_read, no_usable as no_settings, settings_of as settings_in, limits_of as limits_in, usable_at, power_of_two, window_fit as window_within, usable_fit as usable_within, shares_fit as shares_within, limits_fit as limits_within, settings_fit as settings_within, fit_at, register_words, words_for, book_words as places_words, words_needed as needed};
 ghost use Rattle.model.specs.Most.{rings_most, book_most};
 
 use crate::{layout, spans, starts};
@@ -20,7 +20,7 @@ pub const MOST_ENTRIES: u64 = 2_000_000;
 
 // Settings of no register.
 pub fn no_usable() -> Usable
-    ensures { result ≡ no-settings }
+    ensures { result ≡ no_settings }
 {
     let none = Window {
         behind: 0,
@@ -37,7 +37,7 @@ pub fn no_usable() -> Usable
 // The settings of a register, as they stand in the words.
 fn usable_of(st: &[u64], r: usize) -> Usable
     requires { (r < 4) × (length st.now ≡ 29) }
-    ensures { result ≡ usable-in st.now r }
+    ensures { result ≡ usable_from st.now r }
 {
     let a = 5 + 6 * r;
     Usable {
@@ -57,7 +57,7 @@ fn usable_of(st: &[u64], r: usize) -> Usable
 // The same, or none where there is no such register.
 fn usable_below(st: &[u64], r: usize) -> Usable
     requires { (r < 4) × (length st.now ≡ 29) }
-    ensures { result ≡ usable-read st.now r }
+    ensures { result ≡ usable_read st.now r }
 {
     if (r as u64) < st[0] {
         return usable_of(st, r);
@@ -111,13 +111,13 @@ pub fn is_power_of_two(n: u64) -> bool
 }
 
 fn window_fit(w: Window) -> bool
-    ensures { result ≡ window-within w }
+    ensures { result ≡ window_within w }
 {
     (w.behind <= SPAN) & (w.ahead <= SPAN)
 }
 
 pub fn usable_fit(u: Usable) -> bool
-    ensures { result ≡ usable-within u }
+    ensures { result ≡ usable_within u }
 {
     let origin = window_fit(u.origin);
     let copy = window_fit(u.copy);
@@ -134,7 +134,7 @@ pub fn shares_fit(b: Shares) -> bool
 }
 
 pub fn limits_fit(l: Limits) -> bool
-    ensures { result ≡ limits-within l }
+    ensures { result ≡ limits_within l }
 {
     (l.feeder <= MOST)
         & ((l.feeders <= MOST) & ((l.peer <= MOST) & ((l.peers <= MOST) & (l.relay <= MOST))))
@@ -171,7 +171,7 @@ pub fn settings_fit(s: Settings) -> bool
 
 // The words of one register's rings. The bound keeps the sums below from wrapping.
 fn register_words(u: Usable) -> u64
-    requires { usable-within u ≡ true }
+    requires { usable_within u ≡ true }
     ensures { (result ≡ register_words u) × (result ≤ rings_most) }
 {
     let ring = spans::ring_of(u);
@@ -192,7 +192,7 @@ fn words_at(s: Settings, r: usize) -> u64
 // The words of the share book's places.
 fn book_words(b: Shares) -> u64
     requires { shares_within b ≡ true }
-    ensures { (result ≡ places-words b) × (result ≤ book_most) }
+    ensures { (result ≡ places_words b) × (result ≤ book_most) }
 {
     let place = starts::place_width(b) as u64;
     3 * b.places * place

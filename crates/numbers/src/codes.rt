@@ -1,7 +1,7 @@
 // The codes that a host hands in, tested and read, and the numbers that answers go out as.
 ghost use Rattle.std.specs.Prelude.{◌≡◌};
-ghost use Rattle.model.specs.Class.{class_number as number-of-class, class_fits as listed-class, class_at as class-with, class_of as class-for, deliverer_fits as listed-deliverer, deliverer_of as deliverer-with};
-ghost use Rattle.model.specs.Codes.{flag_fits as listed-flag, start_fits as Listed-start, start_of as start-with, verdict_number as number-of-verdict, verdict_fits as listed-verdict, verdict_of as verdict-with, same_verdict as one-verdict, reason_number as number-of-reason, reason_class as class-of-reason, reason_verdict as verdict-of-reason};
+ghost use Rattle.model.specs.Class.{class_number as number_of_class, class_fits as listed_class, class_at as class_with, class_of as class_for, deliverer_fits as listed_deliverer, deliverer_of as deliverer_with};
+ghost use Rattle.model.specs.Codes.{flag_fits as listed_flag, start_fits as listed_start, start_of as start_with, verdict_number as number_of_verdict, verdict_fits as listed_verdict, verdict_of as verdict_with, same_verdict as one_verdict, reason_number as number_of_reason, reason_class as class_of_reason, reason_verdict as verdict_of_reason};
 
 use model::{Class, Deliverer, Reason, Start, Verdict};
 
@@ -15,19 +15,19 @@ pub const RELAY: u64 = 2;
 pub const RESTORED: u64 = 3;
 
 pub fn flag_fits(flag: u64) -> bool
-    ensures { result ≡ listed-flag flag }
+    ensures { result ≡ listed_flag flag }
 {
     flag <= 1
 }
 
 pub fn class_fits(number: u64) -> bool
-    ensures { result ≡ listed-class number }
+    ensures { result ≡ listed_class number }
 {
     number <= 2
 }
 
 pub fn class_at(number: u64) -> Class
-    ensures { result ≡ class-with number }
+    ensures { result ≡ class_with number }
 {
     if number == 0 {
         return Class::Feeders;
@@ -39,7 +39,7 @@ pub fn class_at(number: u64) -> Class
 }
 
 pub fn class_number(class: Class) -> u64
-    ensures { result ≡ number-of-class class }
+    ensures { result ≡ number_of_class class }
 {
     match class {
         Class::Feeders => 0,
@@ -49,7 +49,7 @@ pub fn class_number(class: Class) -> u64
 }
 
 pub fn class_of(who: Deliverer) -> Class
-    ensures { result ≡ class-for who }
+    ensures { result ≡ class_for who }
 {
     match who {
         Deliverer::Feeder(_) => Class::Feeders,
@@ -60,14 +60,14 @@ pub fn class_of(who: Deliverer) -> Class
 }
 
 pub fn deliverer_fits(kind: u64, number: u64) -> bool
-    ensures { result ≡ listed-deliverer kind number }
+    ensures { result ≡ listed_deliverer kind number }
 {
     let listed = class_fits(number);
     (kind <= RELAY) | ((kind == RESTORED) & listed)
 }
 
 pub fn deliverer_of(kind: u64, number: u64) -> Deliverer
-    ensures { result ≡ deliverer-with kind number }
+    ensures { result ≡ deliverer_with kind number }
 {
     if kind == FEEDER {
         return Deliverer::Feeder(number);
@@ -82,13 +82,13 @@ pub fn deliverer_of(kind: u64, number: u64) -> Deliverer
 }
 
 pub fn start_fits(code: u64) -> bool
-    ensures { result ≡ Listed-start code }
+    ensures { result ≡ listed_start code }
 {
     code <= 2
 }
 
 pub fn start_of(code: u64, floor: u64) -> Start
-    ensures { result ≡ start-with code floor }
+    ensures { result ≡ start_with code floor }
 {
     if code == 0 {
         return Start::Empty;
@@ -100,13 +100,13 @@ pub fn start_of(code: u64, floor: u64) -> Start
 }
 
 pub fn verdict_fits(number: u64) -> bool
-    ensures { result ≡ listed-verdict number }
+    ensures { result ≡ listed_verdict number }
 {
     number <= 5
 }
 
 pub fn verdict_of(number: u64) -> Verdict
-    ensures { result ≡ verdict-with number }
+    ensures { result ≡ verdict_with number }
 {
     if number == 0 {
         return Verdict::New;
@@ -127,7 +127,7 @@ pub fn verdict_of(number: u64) -> Verdict
 }
 
 pub fn verdict_number(verdict: Verdict) -> u64
-    ensures { result ≡ number-of-verdict verdict }
+    ensures { result ≡ number_of_verdict verdict }
 {
     match verdict {
         Verdict::New => 0,
@@ -140,13 +140,13 @@ pub fn verdict_number(verdict: Verdict) -> u64
 }
 
 pub fn same_verdict(a: Verdict, b: Verdict) -> bool
-    ensures { result ≡ one-verdict a b }
+    ensures { result ≡ one_verdict a b }
 {
     verdict_number(a) == verdict_number(b)
 }
 
 pub fn reason_number(reason: Reason) -> u64
-    ensures { result ≡ number-of-reason reason }
+    ensures { result ≡ number_of_reason reason }
 {
     match reason {
         Reason::Accepted => 0,
@@ -170,7 +170,7 @@ pub fn reason_number(reason: Reason) -> u64
 
 // The number of the class that holds the ticket; 0 where another rule is named.
 pub fn reason_class(reason: Reason) -> u64
-    ensures { result ≡ class-of-reason reason }
+    ensures { result ≡ class_of_reason reason }
 {
     match reason {
         Reason::Accepted => 0,
@@ -194,7 +194,7 @@ pub fn reason_class(reason: Reason) -> u64
 
 // The verdict that take gives by a rule.
 pub fn reason_verdict(reason: Reason) -> Verdict
-    ensures { result ≡ verdict-of-reason reason }
+    ensures { result ≡ verdict_of_reason reason }
 {
     match reason {
         Reason::Accepted => Verdict::New,

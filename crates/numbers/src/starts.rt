@@ -1,8 +1,8 @@
 // Where each part of the words starts, and how many words it has, under settings that are in bounds.
 ghost use Rattle.std.specs.Prelude.{◌≡◌, true, ◌+◌, ◌*◌, ◌<◌, ◌≤◌};
-ghost use Rattle.model.specs.Widths.{class_head, place_width as place-words};
+ghost use Rattle.model.specs.Widths.{class_head, place_width as place_words};
 ghost use Rattle.model.specs.Settings.{settings_fit, shares_fit, usable_fit, usable_at, words_needed};
-ghost use Rattle.model.specs.Words.{class_width as class_words, class_start as class-from, ring_width as ring_words, register_width as register_words, register_start as register-from};
+ghost use Rattle.model.specs.Words.{class_width as class_words, class_start as class_from, ring_width as ring_words, register_width as register_words, register_start as register_from};
 ghost use Rattle.model.specs.Most.{ring_most, register_most, place_most, class_most};
 ghost use Rattle.numbers.specs.RegisterAt.{RegisterAt};
 
@@ -28,7 +28,7 @@ pub fn needed(s: Settings) -> usize
 // The words of a place in the book: its kind, number, entries and how many pairs it has, then E pairs of two words each.
 pub fn place_width(b: Shares) -> usize
     requires { b.pairs ≤ 512 }
-    ensures { (result ≡ place-words b.pairs) × (result ≤ place_most) }
+    ensures { (result ≡ place_words b.pairs) × (result ≤ place_most) }
 {
     2 * (b.pairs as usize) + layout::PLACE_HEAD
 }
@@ -36,7 +36,7 @@ pub fn place_width(b: Shares) -> usize
 // Where place i of a class starts in the class's words, after those of totals.
 pub fn place_start(b: Shares, i: usize) -> usize
     requires { (b.pairs ≤ 512) × (i ≤ 64) }
-    ensures { (result ≡ class_head + i * place-words b.pairs) × (result ≤ class_most) }
+    ensures { (result ≡ class_head + i * place_words b.pairs) × (result ≤ class_most) }
 {
     let place = place_width(b);
     layout::CLASS_HEAD + i * place
@@ -54,7 +54,7 @@ pub fn class_width(b: Shares) -> usize
 // Where a class starts.
 pub fn class_start(s: Settings, class: Class) -> usize
     requires { settings_fit s ≡ true }
-    ensures { (result ≡ class-from s class) × (result + class_words s.shares ≤ words_needed s) }
+    ensures { (result ≡ class_from s class) × (result + class_words s.shares ≤ words_needed s) }
 {
     let width = class_width(s.shares);
     let number = codes::class_number(class) as usize;
@@ -82,7 +82,7 @@ pub fn register_width(u: Usable) -> usize
 // Where a register starts: after the front, the book, and the registers before it.
 pub fn register_start(s: Settings, register: usize) -> usize
     requires { (settings_fit s ≡ true) × (register < s.registers) }
-    ensures { (result ≡ register-from s register) × (result + register_words (usable_at s register) ≤ words_needed s) }
+    ensures { (result ≡ register_from s register) × (result + register_words (usable_at s register) ≤ words_needed s) }
 {
     let width = class_width(s.shares);
     let mut a = layout::FRONT + 3 * width;

@@ -1,7 +1,7 @@
 // Judge: what a ticket is, with nothing remembered.
 ghost use Rattle.std.specs.Prelude.{◌≡◌, cond};
 ghost use Rattle.model.specs.declared.Verdict.TheVariants.{Late, Ahead};
-ghost use Rattle.model.specs.Judge.{verdict as verdict-on, ahead_for as turned-ahead};
+ghost use Rattle.model.specs.Judge.{verdict as verdict_on, ahead_for as turned_ahead};
 ghost use Rattle.register.specs.Rules.{asked_by, judged_register, judge_says, batch_register, batch_says};
 ghost use Rattle.register.specs.Words.{RegisterWords, RegisterReads, RegisterTurns};
 
@@ -22,7 +22,7 @@ pub struct Ask {
 // Duplicate first, however old: a ticket that is held is never Late.
 fn verdict(part: &[u64], u: Usable, ask: Ask) -> Verdict
     requires { RegisterWords u part.now }
-    ensures { RegisterReads u (λ reg. verdict-on u reg (asked_by ask)) part.now result }
+    ensures { RegisterReads u (λ reg. verdict_on u reg (asked_by ask)) part.now result }
 {
     let bucket = spans::bucket_of(u, ask.stamp);
     let held = rings::holds_any_class(part, u, bucket, spans::as_read(ask.fp));
@@ -53,7 +53,7 @@ pub fn judge(part: &mut [u64], u: Usable, ask: Ask) -> Verdict
 
 // A Late ticket past the window's front is Ahead.
 pub fn ahead_for(past: bool, verdict: Verdict) -> Verdict
-    ensures { result ≡ turned-ahead past verdict }
+    ensures { result ≡ turned_ahead past verdict }
 {
     match verdict {
         Verdict::New => verdict,

@@ -1,7 +1,7 @@
 // Sweep: every generation that the clock has passed is dropped, and the newest stamp that went raises the floor.
 ghost use Rattle.std.specs.Prelude.{◌≡◌, ◌-◌, ◌<◌, max};
 ghost use Rattle.runs.specs.Turns.{silent};
-ghost use Rattle.model.specs.Register.{sweep_rings as swept-rings, sweep as swept_by};
+ghost use Rattle.model.specs.Register.{sweep_rings as swept_rings, sweep as swept_by};
 ghost use Rattle.register.specs.Words.{RegisterWords, RegisterTurns, RingsOf};
 
 use crate::extents::Rings;
@@ -23,7 +23,7 @@ pub(crate) fn sweep_from(swept: Bucket, through: Bucket, ring: u64) -> Bucket
 // The three rings are swept, and the register is swept up to a bucket.
 fn sweep_rings(part: &mut [u64], u: Usable, sizes: Rings, from: Bucket, through: Bucket)
     requires { RegisterWords u part.old × RingsOf u sizes }
-    ensures { RegisterTurns u (swept-rings from.0 through.0) silent part.old part.new (tt {0}) }
+    ensures { RegisterTurns u (swept_rings from.0 through.0) silent part.old part.new (tt {0}) }
 {
     rings::sweep_class(part, u, sizes, Class::Feeders, from, through);
     rings::sweep_class(part, u, sizes, Class::Peers, from, through);

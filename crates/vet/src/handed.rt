@@ -2,7 +2,7 @@
 ghost use Rattle.std.specs.Prelude.{◌≡◌, ◌&&◌, ◌<◌, length};
 ghost use Rattle.model.specs.Class.{deliverer_fits};
 ghost use Rattle.model.specs.Codes.{flag_fits};
-ghost use Rattle.model.specs.Calls.{limits_words_fit, start_fits_at as fits-at, starts_fit as starts-within};
+ghost use Rattle.model.specs.Calls.{limits_words_fit, start_fits_at as fits_at, starts_fit as starts_within};
 
 use model::Settings;
 use numbers::{bounds, codes};
@@ -20,7 +20,7 @@ pub fn limits_fit(limits: &[u64]) -> bool
 // The start of a register is listed, or there is no such register.
 fn start_fits_at(s: Settings, starts: &[u64], register: usize) -> bool
     requires { (register < 4) × (length starts.now ≡ 8) }
-    ensures { result ≡ fits-at s starts.now register }
+    ensures { result ≡ fits_at s starts.now register }
 {
     let listed = codes::start_fits(starts[2 * register]);
     (s.registers <= (register as u64)) | listed
@@ -28,7 +28,7 @@ fn start_fits_at(s: Settings, starts: &[u64], register: usize) -> bool
 
 // There are 8 words, a code and a floor for each of four registers, and the code of each register that there is is listed.
 pub fn starts_fit(s: Settings, starts: &[u64]) -> bool
-    ensures { result ≡ starts-within s starts.now }
+    ensures { result ≡ starts_within s starts.now }
 {
     if starts.len() != 8 {
         return false;

@@ -2,8 +2,8 @@
 ghost use Rattle.std.specs.Prelude.{◌≡◌, true, ◌+◌, ◌*◌, ◌≤◌, length};
 ghost use Rattle.runs.specs.Combine.{both, free};
 ghost use Rattle.model.specs.Settings.{settings_fit, usable_fit, words_needed};
-ghost use Rattle.model.specs.RegisterWords.{each_form, ring_form, register_form, heading_sound as heading-rule};
-ghost use Rattle.model.specs.Words.{front_sound as front-rule, book_form, registers_form, unused_width, class_width, ring_width, register_width};
+ghost use Rattle.model.specs.RegisterWords.{each_form, ring_form, register_form, heading_sound as heading_rule};
+ghost use Rattle.model.specs.Words.{front_sound as front_rule, book_form, registers_form, unused_width, class_width, ring_width, register_width};
 ghost use Rattle.model.specs.Calls.{sound};
 
 use model::{Bucket, Class, Limits, Settings, Usable};
@@ -12,7 +12,7 @@ use numbers::{bounds, layout, spans, starts};
 // The front: it keeps the settings that the call brings, its limits are in bounds, and the closed flag is a flag.
 fn front_sound(s: Settings, front: &[u64]) -> bool
     requires { length front.now ≡ 20 }
-    ensures { result ≡ front-rule s front.now }
+    ensures { result ≡ front_rule s front.now }
 {
     let limits = bounds::limits_fit(Limits {
         feeder: front[layout::FEEDER_LIMIT],
@@ -34,7 +34,7 @@ fn front_sound(s: Settings, front: &[u64]) -> bool
 // are flags, and an absent floor is 0.
 fn heading_sound(u: Usable, heading: &[u64]) -> bool
     requires { length heading.now ≡ 24 }
-    ensures { result ≡ heading-rule u heading.now }
+    ensures { result ≡ heading_rule u heading.now }
 {
     let published = spans::published(u, Bucket(heading[layout::SWEPT]));
     let kept = (heading[layout::ORIGIN_BEHIND] == u.origin.behind)
