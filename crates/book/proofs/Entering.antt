@@ -138,7 +138,8 @@ module _ (b : Shares) (who : Deliverer) (ws : List ℕ) (spot : Spot) (r : Roomy
 
       abbrev lead : List ℕ
       lead =
-          entries_in r.found.class.is.value.places ∷ length r.found.class.is.value.places ∷ units b r.found.class.is.value.places ∷ r.found.class.is.value.expired ∷ flat encode_place r.found.class.is.value.places
+          entries_in r.found.class.is.value.places ∷ length r.found.class.is.value.places ∷ units b r.found.class.is.value.places
+          ∷ r.found.class.is.value.expired ∷ flat encode_place r.found.class.is.value.places
 
       abbrev left : List ℕ
       left = replicate ((b.places - suc (length r.found.class.is.value.places)) * place_width b.pairs) 0

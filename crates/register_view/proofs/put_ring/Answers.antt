@@ -26,7 +26,8 @@ slice_bounds-put_generation-end c =
 pub put_generation-next-requires : goal.put_generation-next-requires
 put_generation-next-requires c =
     let s = c.args in
-    (rest_here s.wide s.words.now c.loop-left.a c.loop-left.left (omega arith) c.loop-left.invariant.0, part_fits s.wide s.words.now c.loop-left.a c.loop-left.left (omega arith) c.loop-left.invariant.1)
+    let l = c.loop-left in
+    (rest_here s.wide s.words.now l.a l.left (omega arith) l.invariant.0, part_fits s.wide s.words.now l.a l.left (omega arith) l.invariant.1)
 
 pub loop-left-preserved : goal.loop-left-preserved
 loop-left-preserved c =

@@ -20,7 +20,14 @@ returns-then-number-eq3 c = simp (ne_eqb _ _ c.if-number-eq0.false, ne_eqb _ _ c
 
 pub returns-then-number-eq4 : goal.returns-then-number-eq4
 unfolding verdict_of
-returns-then-number-eq4 c = simp (ne_eqb _ _ c.if-number-eq0.false, ne_eqb _ _ c.if-number-eq1.false, ne_eqb _ _ c.if-number-eq2.false, ne_eqb _ _ c.if-number-eq3.false, eq-eqb _ _ c.if-number-eq4.true)
+returns-then-number-eq4 c =
+    simp (
+      ne_eqb _ _ c.if-number-eq0.false,
+      ne_eqb _ _ c.if-number-eq1.false,
+      ne_eqb _ _ c.if-number-eq2.false,
+      ne_eqb _ _ c.if-number-eq3.false,
+      eq-eqb _ _ c.if-number-eq4.true,
+    )
 
 pub returns : goal.returns
 unfolding verdict_of
