@@ -1,5 +1,5 @@
 -- "Entry shares": who holds how many entries, by the second in which they end.
-use Rattle.std.specs.Prelude.{ℕ, suc, ◌+◌, ◌-◌, ◌*◌, ◌/◌, Bool, true, false, cond, not, ◌||◌, List, [], ◌∷◌, ◌++◌, leb, ltb, eqb, length, drop, replicate}
+use Rattle.std.specs.Prelude.{ℕ, suc, ◌+◌, ◌-◌, ◌*◌, ◌/◌, Bool, true, false, cond, not, ◌||◌, List, [], ◌∷◌, ◌++◌, leb, ltb, eqb, length, drop, replicate, if◌then◌else◌}
 use Rattle.model.specs.declared.Class.{Class}
 use Rattle.model.specs.declared.Class.TheVariants.{Feeders, Peers, Own}
 use Rattle.model.specs.declared.Deliverer.{Deliverer}
@@ -8,7 +8,7 @@ use Rattle.model.specs.declared.Draw.{Draw}
 use Rattle.model.specs.declared.Draw.TheVariants.{Granted, Closed, OwnShare, ClassLimit, EqualPart, TwiceLimit, Places, Pairs}
 use Rattle.model.specs.declared.Shares.{Shares}
 use Rattle.model.specs.declared.Limits.{Limits}
-use Rattle.model.specs.Numbers.{if◌then◌else◌, ceil, cap64, cap32}
+use Rattle.model.specs.Numbers.{ceil, cap64, cap32}
 use Rattle.model.specs.Class.{class_of, same_deliverer, Each, pick, swap, each, three}
 
 -- so many entries end in this second

@@ -1,5 +1,5 @@
 -- "Dump": a register's floor and generations as bytes, restore and resume.
-use Rattle.std.specs.Prelude.{ℕ, zero, suc, ◌+◌, ◌-◌, ◌*◌, ◌/◌, ◌%◌, max, Bool, true, false, cond, not, List, [], ◌∷◌, ◌++◌, leb, eqb, length, take, drop}
+use Rattle.std.specs.Prelude.{ℕ, zero, suc, ◌+◌, ◌-◌, ◌*◌, ◌/◌, ◌%◌, max, Bool, true, false, cond, not, List, [], ◌∷◌, ◌++◌, leb, eqb, length, take, drop, if◌then◌else◌}
 use Rattle.std.proofs.Math.Option.{Option, none, some}
 use Rattle.model.specs.declared.Class.{Class}
 use Rattle.model.specs.declared.Class.TheVariants.{Feeders, Peers, Own}
@@ -10,7 +10,7 @@ use Rattle.model.specs.declared.Room.TheVariants.{At, Collides, Full as NoSlots}
 use Rattle.model.specs.declared.Usable.{Usable}
 use Rattle.model.specs.declared.Shares.{Shares}
 use Rattle.runs.specs.Chunks.{flat}
-use Rattle.model.specs.Numbers.{if◌then◌else◌, cap64, raise}
+use Rattle.model.specs.Numbers.{cap64, raise}
 use Rattle.model.specs.Class.{Each, pick}
 use Rattle.model.specs.Generation.{Generation, held, as_read, dropped}
 use Rattle.model.specs.Book.{Book, second_of, granted, draw_says, drawn, undrawn}

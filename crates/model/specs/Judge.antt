@@ -1,5 +1,5 @@
 -- "Judge and take", first paragraph: buckets, windows, judge, take and their batch forms.
-use Rattle.std.specs.Prelude.{ℕ, ◌+◌, ◌%◌, Bool, cond, not, ◌&&◌, ◌||◌, leb, ltb, eqb, length}
+use Rattle.std.specs.Prelude.{ℕ, ◌+◌, ◌%◌, Bool, cond, not, ◌&&◌, ◌||◌, leb, ltb, eqb, length, if◌then◌else◌}
 use Rattle.model.specs.declared.Deliverer.{Deliverer}
 use Rattle.model.specs.declared.Deliverer.TheVariants.{Feeder, Peer, Relay, Restored}
 use Rattle.model.specs.declared.Verdict.{Verdict}
@@ -9,7 +9,7 @@ use Rattle.model.specs.declared.Room.TheVariants.{At, Collides, Full as NoSlots}
 use Rattle.model.specs.declared.Window.{Window}
 use Rattle.model.specs.declared.Usable.{Usable}
 use Rattle.model.specs.declared.Shares.{Shares}
-use Rattle.model.specs.Numbers.{if◌then◌else◌, ceil, cap64, under}
+use Rattle.model.specs.Numbers.{ceil, cap64, under}
 use Rattle.model.specs.Settings.{retained}
 use Rattle.model.specs.Class.{class_of, pick}
 use Rattle.model.specs.Generation.{Generation, held, among, as_read, slots_for}

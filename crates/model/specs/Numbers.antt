@@ -1,10 +1,6 @@
--- What all rules share: a choice, bounds, rounding up, the two caps, and a floor that may be absent.
-use Rattle.std.specs.Prelude.{ℕ, ◌+◌, ◌-◌, ◌/◌, min, max, Bool, false, cond, ◌&&◌, leb}
+-- What all rules share: bounds, rounding up, the two caps, and a floor that may be absent.
+use Rattle.std.specs.Prelude.{ℕ, ◌+◌, ◌-◌, ◌/◌, min, max, Bool, false, ◌&&◌, leb}
 use Rattle.std.proofs.Math.Option.{Option, none, some}
-
-infixr 10 if◌then◌else◌
-abbrev pub if◌then◌else◌ : {A : Type 0} → Bool → A → A → A
-if b then x else y = cond b x y
 
 -- lo ≤ n ≤ hi
 abbrev pub between : ℕ → ℕ → ℕ → Bool

@@ -1,11 +1,11 @@
 -- A register and its rings, "Sweep and floor", and how a register starts and begins.
-use Rattle.std.specs.Prelude.{ℕ, zero, suc, ◌-◌, ◌*◌, ◌%◌, max, Bool, true, false, not, ◌&&◌, ◌||◌, List, [], ◌∷◌, leb, ltb, eqb, length, get_or, set, replicate}
+use Rattle.std.specs.Prelude.{ℕ, zero, suc, ◌-◌, ◌*◌, ◌%◌, max, Bool, true, false, not, ◌&&◌, ◌||◌, List, [], ◌∷◌, leb, ltb, eqb, length, get_or, set, replicate, if◌then◌else◌}
 use Rattle.std.proofs.Math.Option.{Option, none, some}
 use Rattle.model.specs.declared.Class.{Class}
 use Rattle.model.specs.declared.Start.{Start}
 use Rattle.model.specs.declared.Start.TheVariants.{Empty, Fallback, At}
 use Rattle.model.specs.declared.Usable.{Usable}
-use Rattle.model.specs.Numbers.{if◌then◌else◌, ceil, cap64, raise}
+use Rattle.model.specs.Numbers.{ceil, cap64, raise}
 use Rattle.model.specs.Settings.{ring_of}
 use Rattle.model.specs.Class.{Each, pick, swap, three}
 use Rattle.model.specs.Generation.{Generation, empty, held, among, insert, dropped}

@@ -1,12 +1,12 @@
 -- Request Q-13: "the smallest 64-bit stamp for which `take_batch` would answer the wanted verdict, or none". Every test in `take_batch`
 -- changes its outcome at stamps of a short list alone, so the smallest stamp with a verdict is in that list. No other stamp is tried.
-use Rattle.std.specs.Prelude.{ℕ, zero, suc, ◌+◌, ◌-◌, ◌*◌, Bool, true, ◌&&◌, List, [], ◌∷◌, ◌++◌, ltb}
+use Rattle.std.specs.Prelude.{ℕ, zero, suc, ◌+◌, ◌-◌, ◌*◌, Bool, true, ◌&&◌, List, [], ◌∷◌, ◌++◌, ltb, if◌then◌else◌}
 use Rattle.std.proofs.Math.Option.{Option, none, some}
 use Rattle.model.specs.declared.Usable.{Usable}
 use Rattle.model.specs.declared.Verdict.{Verdict}
 use Rattle.model.specs.declared.Shares.{Shares}
 use Rattle.model.specs.declared.Window.{Window}
-use Rattle.model.specs.Numbers.{if◌then◌else◌, cap64}
+use Rattle.model.specs.Numbers.{cap64}
 use Rattle.model.specs.Settings.{retained, ring_of}
 use Rattle.model.specs.Codes.{same_verdict}
 use Rattle.model.specs.Book.{Book}

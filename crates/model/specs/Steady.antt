@@ -9,12 +9,12 @@
 -- on other registers are free, and so are restores and resumes there.
 --
 -- Two things hold beyond the sentence: the bound is not needed, and of the readings those of takes are enough.
-use Rattle.std.specs.Prelude.{ℕ, ◌+◌, ◌≤◌, ◌<◌, ◌≡◌, Bool, true, false, cond, not, ◌&&◌, List, [], ◌∷◌, leb, eqb}
+use Rattle.std.specs.Prelude.{ℕ, ◌+◌, ◌≤◌, ◌<◌, ◌≡◌, Bool, true, false, cond, not, ◌&&◌, List, [], ◌∷◌, leb, eqb, if◌then◌else◌}
 use Rattle.std.proofs.Math.Option.{Option, none, some}
 use Rattle.model.specs.declared.Usable.{Usable}
 use Rattle.model.specs.declared.Verdict.TheVariants.{New, Late}
 use Rattle.model.specs.declared.Answer.TheVariants.{Said}
-use Rattle.model.specs.Numbers.{if◌then◌else◌, top64}
+use Rattle.model.specs.Numbers.{top64}
 use Rattle.model.specs.Settings.{settings_of, usable_at, retained, ahead}
 use Rattle.model.specs.Words.{State}
 use Rattle.model.specs.Codes.{went_through}

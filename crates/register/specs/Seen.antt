@@ -1,5 +1,5 @@
 -- What a sweep would leave of a register, by what was seen of it, and the rules of judge on that.
-use Rattle.std.specs.Prelude.{ℕ, ◌+◌, ◌-◌, max, Bool, true, false, cond, ◌||◌, List, [], ◌∷◌, leb, ltb}
+use Rattle.std.specs.Prelude.{ℕ, ◌+◌, ◌-◌, max, Bool, true, false, cond, ◌||◌, List, [], ◌∷◌, leb, ltb, if◌then◌else◌}
 use Rattle.std.proofs.Math.Option.{Option, none, some}
 use Rattle.model.specs.declared.Class.{Class}
 use Rattle.model.specs.declared.Class.TheVariants.{Feeders, Peers, Own}
@@ -8,7 +8,7 @@ use Rattle.model.specs.declared.Reason.TheVariants.{Floor, Behind, Ahead}
 use Rattle.model.specs.declared.Room.{Room}
 use Rattle.model.specs.declared.Usable.{Usable}
 use Rattle.model.specs.First.{Rule, rule}
-use Rattle.model.specs.Numbers.{if◌then◌else◌, under}
+use Rattle.model.specs.Numbers.{under}
 use Rattle.model.specs.Settings.{ring_of}
 use Rattle.model.specs.Class.{pick, each}
 use Rattle.model.specs.Register.{Register, holds, through_of, sweep}
