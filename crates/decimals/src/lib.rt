@@ -58,6 +58,7 @@ fn joined(v: u64, b: u8) -> Number
 }
 
 // Writes a number into `out` from a place on, and returns the place behind it. Every other byte stays as it was.
+#[tactic(auto, using(crate::proofs::ReadBack::twenty_at_most, crate::proofs::ReadBack::not_empty))]
 pub fn write(n: u64, out: &mut [u8], at: usize) -> usize
     requires { at + 20 ≤ length out.old }
     ensures value { (result ≡ at + length (text_of n)) × (out.new ≡ with_text at (text_of n) out.old) }

@@ -84,6 +84,7 @@ impl Sent {
     }
 
     // The first value, or what the out number held before where the answer has none. The same of the others.
+    #[tactic(auto, using(crate::proofs::Sending::none_there, crate::proofs::Sending::one_there))]
     pub(crate) fn first_or(self, old: u64) -> u64
         ensures { result ≡ get_or (values_of self) 0 old }
     {
@@ -93,6 +94,7 @@ impl Sent {
         self.first
     }
 
+    #[tactic(auto, using(crate::proofs::Sending::none_there, crate::proofs::Sending::one_there))]
     pub(crate) fn second_or(self, old: u64) -> u64
         ensures { result ≡ get_or (values_of self) 1 old }
     {
@@ -102,6 +104,7 @@ impl Sent {
         self.second
     }
 
+    #[tactic(auto, using(crate::proofs::Sending::none_there, crate::proofs::Sending::one_there))]
     pub(crate) fn third_or(self, old: u64) -> u64
         ensures { result ≡ get_or (values_of self) 2 old }
     {
@@ -111,6 +114,7 @@ impl Sent {
         self.third
     }
 
+    #[tactic(auto, using(crate::proofs::Sending::none_there, crate::proofs::Sending::one_there))]
     pub(crate) fn fourth_or(self, old: u64) -> u64
         ensures { result ≡ get_or (values_of self) 3 old }
     {
