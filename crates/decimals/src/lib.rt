@@ -68,6 +68,7 @@ pub fn write(n: u64, out: &mut [u8], at: usize) -> usize
 }
 
 // The same where there is room for this number: first the digits before the last one, by itself, then the last one.
+#[tactic(auto, using(crate::proofs::Writing::length_short, crate::proofs::Writing::length_long, crate::proofs::Writing::put_one, crate::proofs::Writing::put_more))]
 fn put(n: u64, out: &mut [u8], at: usize) -> usize
     requires { at + length (text_of n) ≤ length out.old }
     ensures { (result ≡ at + length (text_of n)) × (out.new ≡ with_text at (text_of n) out.old) }
