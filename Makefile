@@ -9,7 +9,7 @@ DESTDIR ?=
 run: build/strikes
 	@build/strikes demo
 
-# All tests: lists of calls against the Rust where its source is at hand, the archive and the hosts, then every proof from nothing.
+# All tests: lists of calls against the Rust where its source is at hand, the archive and the hosts, then the proofs' gate.
 test:
 	@bash .ci/run
 

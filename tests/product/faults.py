@@ -141,14 +141,15 @@ def tried():
     crate = COPY / "crates" / "replay"
     with open(crate / "stdin") as lists:
         run = subprocess.run(["rt", "try", "--steps", "1"], cwd=crate, stdin=lists, capture_output=True, text=True)
-    if "run=" not in run.stderr:
+    said = run.stderr.splitlines()
+    if not any(line.startswith(("checked: ended", "checked: fault")) for line in said):
         sys.exit("faults.py: rt try did not run the program: " + run.stderr[:2000])
-    expected, wrote = ((crate / "stdout").read_text().splitlines(), run.stdout.splitlines())
+    expected, wrote = (crate / "stdout").read_text().splitlines(), run.stdout.splitlines()
     for at, (line, wanted) in enumerate(zip(wrote, expected)):
         if line != wanted:
             return False, f"line {at + 1}: {line[:60]} for {wanted[:60]}"
-    ended = len(wrote) == len(expected) and "checked: ended status=0" in run.stderr.splitlines()
-    return ended, "as recorded" if ended else f"{len(wrote)} lines of {len(expected)}: " + run.stderr.strip().splitlines()[-1][:80]
+    ended = len(wrote) == len(expected) and "checked: ended status=0" in said
+    return ended, "as recorded" if ended else f"{len(wrote)} lines of {len(expected)}: {said[-1][:80]}"
 
 
 def main():
