@@ -36,12 +36,12 @@ FAULTS = {
     "equal-part-untested": [(DECIDE, "if t / holders < own {", "if t < own {")],
     # Drawn before room is looked for, and not given back where there is none.
     "share-not-given-back": [
-        ("taking/src/lib.rt", "    shares::enter(run, s, ticket, spot);\n    on_register::strike", "    on_register::strike"),
-        ("taking/src/lib.rt", "    let room = on_register::room(run, s, r, extent, ticket);",
-         "    shares::enter(run, s, ticket, spot);\n    let room = on_register::room(run, s, r, extent, ticket);"),
+        ("taking/src/lib.rt", "    shares::enter(run, on.s, ticket, spot);\n    on_register::strike", "    on_register::strike"),
+        ("taking/src/lib.rt", "    let room = on_register::room(run, on, ticket);",
+         "    shares::enter(run, on.s, ticket, spot);\n    let room = on_register::room(run, on, ticket);"),
     ],
     "growth-forgets-one": [
-        ("generation/src/slots.rt", "    let mut i = 0;\n    while i < old.len()", "    let mut i = 1;\n    while i < old.len()"),
+        ("generation/src/slots.rt", "for word in old {", "for word in old.iter().skip(1) {"),
     ],
     # Room is looked for as if a held fingerprint wanted a slot of its own.
     "held-asks-for-room": [
@@ -54,7 +54,7 @@ FAULTS = {
          "    let wanted = slots_for(false, part[Generation::SLOTS], part[Generation::HELD]);\n    regrow"),
     ],
     "restore-keeps-its-draws": [
-        ("restoring/src/holding.rt", "give_back_all(run, s, r, h, tally.draws);", "give_back_all(run, s, r, h, 0);"),
+        ("restoring/src/holding.rt", "give_back_all(run, on, h, draws);", "give_back_all(run, on, h, 0 * draws);"),
     ],
     # The floor rises to the dump's newest stamp alone, whatever is dropped.
     "old-floor-line": [("register/src/forgetting.rt", "heading::raise_by(part, went);", "")],
@@ -62,15 +62,15 @@ FAULTS = {
         ("expiring/src/lib.rt", "let least = least::least_published(run, s, reading);", "let least = reading;"),
     ],
     "second-rounded-down": [
-        ("numbers/src/spans.rt", "capped::ceil_div(capped::capped_mul(bucket.0, width), 1000)",
-         "capped::capped_mul(bucket.0, width) / 1000"),
+        ("numbers/src/spans.rt", "ceil_div(bucket.0.saturating_mul(width), 1000).min(TOP32)",
+         "(bucket.0.saturating_mul(width) / 1000).min(TOP32)"),
     ],
-    "newest-not-kept": [(GENERATION, "let newest = capped::larger(head.newest, stamp);", "let newest = stamp;")],
+    "newest-not-kept": [(GENERATION, "newest: head.newest.max(stamp),", "newest: stamp,")],
     # An oldest stamp of 0 is taken for none.
     "oldest-zero-is-none": [
-        (GENERATION, "    if head.held == 0 {\n        return stamp;", "    if head.oldest == 0 {\n        return stamp;"),
+        (GENERATION, "    if head.held == 0 {\n        stamp\n", "    if head.oldest == 0 {\n        stamp\n"),
     ],
-    "oldest-not-kept": [(GENERATION, "    capped::smaller(head.oldest, stamp)\n", "    stamp\n")],
+    "oldest-not-kept": [(GENERATION, "        head.oldest.min(stamp)\n", "        stamp\n")],
     "position-clash-overwritten": [
         (GENERATION, "(part[Generation::HELD] != 0) {", "(part[Generation::HELD] == 18446744073709551615) {"),
         (GENERATION, "    grow(part, known);\n    enter(",
@@ -78,26 +78,26 @@ FAULTS = {
     ],
     # A number of a dump is read with two of its bytes exchanged.
     "bytes-exchanged": [
-        ("dump/src/octets.rt", "0x100_0000 * wide(bytes[at + 3])", "0x100_0000 * wide(bytes[at + 4])"),
-        ("dump/src/octets.rt", "0x1_0000_0000 * wide(bytes[at + 4])", "0x1_0000_0000 * wide(bytes[at + 3])"),
+        ("dump/src/octets.rt", "u64::from_le_bytes(*word)",
+         "let [a, b, c, d, e, f, g, h]: [u8; 8] = *word;\n    u64::from_le_bytes([a, b, c, e, d, f, g, h])"),
     ],
     "ahead-for-late": [
-        ("register/src/judging.rt", "Verdict::Late => late_or_ahead(past),", "Verdict::Late => late_or_ahead(true),"),
+        ("register/src/judging.rt", "if past {", "if past | true {"),
     ],
     "twice-the-limit-and-one": [(DECIDE, "if 2 * t < units {", "if 2 * t + 1 < units {")],
     "twice-the-limit-less-one": [(DECIDE, "if 2 * t < units {", "if 2 * t <= units {")],
-    "one-pair-too-many": [(DECIDE, "(used < pairs)", "(used <= pairs)")],
-    "one-pair-too-few": [(DECIDE, "(used < pairs)", "(used + 1 < pairs)")],
+    "one-pair-too-many": [(DECIDE, "pairs <= used", "pairs < used")],
+    "one-pair-too-few": [(DECIDE, "pairs <= used", "pairs <= used + 1")],
     # A ticket is explained by the floor of now, and not by the one that its sweep would leave.
-    "explain-floor-before-sweep": [(SEEN, "raised_by(raised_by(raised_by(seen, feeders), peers), own)", "seen")],
+    "explain-floor-before-sweep": [(SEEN, "Seen { floor, ..seen }", "Seen { floor: seen.floor, ..seen }")],
     # What lies before the sweep's end counts as gone, visited or not.
     "explain-gone-unvisited": [
-        ("ring/src/peeking.rt", "(through.0 - 1 - head.bucket) % (ring as u64) < through.0 - from.0", "true"),
+        ("ring/src/peeking.rt", "(buckets.through.0 - 1 - head.bucket) % (shape.ring as u64)\n            < buckets.through.0 - buckets.from.0",
+         "true"),
     ],
     "explain-own-before-feeders": [
-        (SEEN, "    if holds_after(part, u, rings, seen, Class::Feeders, at, bucket, fp) {\n        return HeldIn::By(Class::Feeders);",
-         "    if holds_after(part, u, rings, seen, Class::Own, at, bucket, fp) {\n        return HeldIn::By(Class::Own);\n    }\n"
-         "    if holds_after(part, u, rings, seen, Class::Feeders, at, bucket, fp) {\n        return HeldIn::By(Class::Feeders);"),
+        (SEEN, "    for class in [Class::Feeders, Class::Peers, Class::Own] {\n        if holds_after",
+         "    for class in [Class::Own, Class::Feeders, Class::Peers] {\n        if holds_after"),
     ],
     # The verdict stays, and so the rule alone tells.
     "explain-class-limit-for-feeders": [
@@ -105,20 +105,20 @@ FAULTS = {
     ],
     "explain-slots-for-position": [("taking/src/explaining.rt", "Room::Collides => Reason::Position,", "Room::Collides => Reason::Slots,")],
     # Judge's verdict for take's.
-    "explain-judges-alone": [("taking/src/explaining.rt", "    explain_share(run, s, r, extent, seen, ticket)\n", "    first\n")],
+    "explain-judges-alone": [("taking/src/explaining.rt", "Reason::Accepted => explain_share(run, on, seen, tickets::ticket_of(on.extent.u, ask)),", "Reason::Accepted => Reason::Accepted,")],
     # A stamp that is not tried: each kind of them.
-    "stamp-0-untried": [(TRIES, "let zero = better(run, q, 0, none);", "let zero = none;")],
-    "stamp-window-start-untried": [(TRIES, "better(run, q, capped::capped_sub(reading.0, window.behind), zero)", "zero")],
-    "stamp-past-front-untried": [(TRIES, "better(run, q, capped::capped_add(front, 1), first)", "first")],
-    "stamp-above-floor-untried": [(TRIES, "    better(run, q, capped::capped_add(q.seen.floor, 1), best)\n", "    best\n")],
-    "stamp-window-two-buckets-short": [(TRIES, "while k < ring {", "while k + 2 < ring {")],
-    "stamp-of-bucket-untried": [(TRIES, "let first = better(run, q, spans::first_stamp(u, bucket, 0), best);", "let first = best;")],
-    "stamp-after-bucket-untried": [(TRIES, "    better(run, q, spans::first_stamp(u, bucket, 1), first)\n", "    first\n")],
+    "stamp-0-untried": [(TRIES, "&[0, start, past]", "&[start, past]")],
+    "stamp-window-start-untried": [(TRIES, "&[0, start, past]", "&[0, past]")],
+    "stamp-past-front-untried": [(TRIES, "&[0, start, past]", "&[0, start]")],
+    "stamp-above-floor-untried": [(TRIES, "Some(floor) => better(run, q, floor.saturating_add(1), best),", "Some(_) => best,")],
+    "stamp-window-two-buckets-short": [(TRIES, "for k in 0..spans::ring_of(u) {", "for k in 0..spans::ring_of(u) - 2 {")],
+    "stamp-of-bucket-untried": [(TRIES, "&[first, after]", "&[after]")],
+    "stamp-after-bucket-untried": [(TRIES, "&[first, after]", "&[first]")],
     # The last that is found, for the least.
-    "stamp-last-found": [(TRIES, "    if best.found & (best.stamp <= stamp) {\n        return best;\n    }\n", "")],
+    "stamp-last-found": [(TRIES, "    if !is_below(stamp, best) {\n        return best;\n    }\n", "")],
     # Take's verdict for take_batch's.
     "stamp-for-take": [("seeking/src/asking.rt", "register::ahead_for(past, ", "register::ahead_for(past & false, ")],
-    "stamp-any-code": [("strikes/src/lib.rt", "ticket.listed & listed", "ticket.listed")],
+    "stamp-any-code": [("strikes/src/lib.rt", "Verdict::try_from(wanted)?", "Verdict::try_from(wanted).unwrap_or(Verdict::Unjudged)")],
 }
 
 

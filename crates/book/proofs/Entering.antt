@@ -5,6 +5,7 @@ use native.Mathlib.Omega.{arith}
 use mathlib.Core.Path.{◌≡◌, refl, ap, ap₂, sym, subst, ◌∙◌}
 use mathlib.Core.Bool.{Bool, true, false, not, ◌||◌}
 use mathlib.Core.List.{List, [], ◌∷◌, ◌++◌, append_assoc}
+use Rattle.std.proofs.Common.{Some, None, Ok, Err}
 use lib.ListN.{length, get_or, take, drop, replicate, length-append, length-drop, length-replicate, replicate-append-replicate}
 use lib.Seq.{length-take-le}
 use lib.Dec.{eqb, leb, ltb}
@@ -34,16 +35,16 @@ use Rattle.model.proofs.Places.{PlacesOk, holds_some, entries_enter, units_enter
 use Rattle.book.specs.declared.Spot.{Spot}
 use Rattle.book.specs.declared.totals.Totals.{Totals}
 use Rattle.book.specs.Sums.{totals_in, totals_of, taken}
-use Rattle.book.specs.Rules.{if_none}
+use Rattle.book.specs.Rules.{only_if}
 use Rattle.pairs.specs.Pairs.{before, second_at, count_at, raise_at, insert_at}
 use Rattle.book.specs.PlaceRules.{pairs_in, Wide, Has, Fits, raised_place, longer_place, headed, opened_words}
-use Rattle.book.specs.ClassRules.{ClassIs, ClassReads, ClassTurns, place_index, spot_of, Found, Roomy, BodyTurns, entered, drawn_class}
+use Rattle.book.specs.ClassRules.{ClassIs, ClassReads, ClassTurns, place_of, place_index, spot_of, Found, Roomy, BodyTurns, entered, drawn_class}
 use Rattle.runs.proofs.Shifts.{mid_of_append, put_of}
 use Rattle.pairs.proofs.PairLists.{before_le, second_below, add_listed, add_new}
 use Rattle.book.proofs.ClassWords.{nobody, only, reads_one, turns_one, flat_cons, flat_long, up_flat, each_ok, few, holders_are, totals_are, words_are, here_ok, put_here, place_long}
 use Rattle.book.proofs.ClassLists.{index_le, entries_none, entries_at, enter_at, enter_none}
-use Rattle.book.proofs.Spots.{at_index, at_entries, at_listed, has_one, here_fine, here_seen, here_pairs, hit, wide, before_is}
-use Rattle.book.proofs.Finding.{holders_sum, units_sum, units_small, if_none_le, entries_le, index_is, word_of}
+use Rattle.book.proofs.Spots.{at_index, at_entries, at_listed, at_unlisted, has_one, here_fine, here_seen, here_pairs, listed_here, before_here, wide}
+use Rattle.book.proofs.Finding.{holders_sum, units_sum, units_small, only_if_le, entries_le, nowhere, in_use, index_is, word_of}
 
 -- ---- contracts on the places alone
 -- a part put back behind four words leaves these, so a part of the places leaves the totals
@@ -112,7 +113,7 @@ module _ (b : Shares) (who : Deliverer) (ws : List ℕ) (spot : Spot) (r : Roomy
   xs = r.found.class.is.value.places
 
   -- ---- a new place
-  module _ (none_yet : spot.entries ≡ 0) where
+  module _ (none_yet : spot.seen.entries ≡ 0) where
     no_place : length xs ≤ spot.place
     no_place =
         let e = (at_entries b who ws spot r.found) in
@@ -184,7 +185,7 @@ module _ (b : Shares) (who : Deliverer) (ws : List ℕ) (spot : Spot) (r : Roomy
           ∙ ap (enc_up (place_form (class_of who) b.pairs) b.places) (sym (enter_none who spot.second b xs (let g = no_place in let j = (at_index b who ws spot r.found) in omega arith))))
 
   -- ---- the deliverer's place
-  module _ (some : spot.entries ≡ 0 → ⊥) where
+  module _ (some : spot.seen.entries ≡ 0 → ⊥) where
     module _ (a e : ℕ) (ha : a ≡ class_head + spot.place * place_width b.pairs) (he : e ≡ a + place_width b.pairs) where
       abbrev now : Place
       now = get_or r.found.class.is.value.places spot.place nobody
@@ -203,58 +204,68 @@ module _ (b : Shares) (who : Deliverer) (ws : List ℕ) (spot : Spot) (r : Roomy
           (p ∙ same_many b (class_of who) (length xs) (take i xs ++ q ∷ drop (suc i) xs) n (few b (class_of who) ws cw) ∙ ap (enc_up (place_form (class_of who) b.pairs) b.places) x)
 
       -- its second is listed
-      module _ (yes : spot.listed ≡ true) where
-        there : spot.before < length now.pairs
-        there = second_below spot.second spot.before now.pairs (sym (hit b who ws spot r.found some a e ha he) ∙ yes)
+      module _ (nth : ℕ) (yes : spot.seen.pair ≡ Ok nth) where
+        nth_is : nth ≡ before spot.second now.pairs
+        nth_is = (at_listed b who ws spot r.found nth yes).1 ∙ before_here b who ws spot r.found some a e ha he
 
-        has_now : Has spot.before now
+        hit : second_at spot.second (before spot.second now.pairs) now.pairs ≡ true
+        hit = sym (listed_here b who ws spot r.found some a e ha he) ∙ (at_listed b who ws spot r.found nth yes).0
+
+        there : nth < length now.pairs
+        there = second_below spot.second nth now.pairs (rw nth_is hit)
+
+        has_now : Has nth now
         has_now = record {
           there = there;
-          some = count_some 0 spot.before now.pairs (here_fine b who ws spot r.found some a e ha he).pairs
+          some = count_some 0 nth now.pairs (here_fine b who ws spot r.found some a e ha he).pairs
               there;
         }
 
-        pub raise_asks : Wide (mid_of a (e - a) ws) × (spot.before < get_or (mid_of a (e - a) ws) 3 0) × (count_at spot.before (pairs_in (mid_of a (e - a) ws)) ≤ most_entries)
-            × Is encode_place (Has spot.before) (mid_of a (e - a) ws)
+        pub raise_asks : Wide (mid_of a (e - a) ws) × (nth < get_or (mid_of a (e - a) ws) 3 0) × (count_at nth (pairs_in (mid_of a (e - a) ws)) ≤ most_entries)
+            × Is encode_place (Has nth) (mid_of a (e - a) ws)
         raise_asks =
-            let m = count_most spot.before now.pairs in
+            let m = count_most nth now.pairs in
             let f = (here_fine b who ws spot r.found some a e ha he).few in (
               (wide b who ws spot r.found some a e ha he),
               rw (here_seen b who ws spot r.found some a e ha he) there,
               rw
-                  ((here_seen b who ws spot r.found some a e ha he), count_in now spot.before) (omega arith),
+                  ((here_seen b who ws spot r.found some a e ha he), count_in now nth) (omega arith),
               record { value = now; ok = has_now; words = here_seen b who ws spot r.found some a e ha he },
             )
 
-        pub enters_listed : (ys : List ℕ) → Turns encode_place (Has spot.before) (raised_place spot.before) (λ p. tt {0}) (mid_of a (e - a) ws) ys (tt {0})
+        pub enters_listed : (ys : List ℕ) → Turns encode_place (Has nth) (raised_place nth) (λ p. tt {0}) (mid_of a (e - a) ws) ys (tt {0})
             → BodyTurns b (class_of who) (enter b who spot.second) ws (put_mid a (e - a) ws ys)
         enters_listed ys t =
             let y = t.does now has_now (here_seen b who ws spot r.found some a e ha he) in
-            let s : second_at spot.second (before spot.second now.pairs) now.pairs ≡ true = rw (← (before_is b who ws spot r.found some a e ha he))
-            (sym (hit b who ws spot r.found some a e ha he) ∙ yes) in
-            let q : add_pair spot.second now.pairs ≡ raise_at spot.before now.pairs = add_listed spot.second now.pairs s ∙ rw (before_is b who ws spot r.found some a e ha he) in
-            enters_here (raised_place spot.before now) ys y.0 (ap (λ (z : List Pair). with_pairs z now) (sym q))
+            let q : add_pair spot.second now.pairs ≡ raise_at nth now.pairs = add_listed spot.second now.pairs hit ∙ rw nth_is in
+            enters_here (raised_place nth now) ys y.0 (ap (λ (z : List Pair). with_pairs z now) (sym q))
 
       -- it is not, and there are cells for it
-      module _ (not_yet : spot.listed ≡ false) where
+      module _ (nth : ℕ) (not_yet : spot.seen.pair ≡ Err nth) where
+        next_is : nth ≡ before spot.second now.pairs
+        next_is = (at_unlisted b who ws spot r.found nth not_yet).1 ∙ before_here b who ws spot r.found some a e ha he
+
+        missed : second_at spot.second (before spot.second now.pairs) now.pairs ≡ false
+        missed = sym (listed_here b who ws spot r.found some a e ha he) ∙ (at_unlisted b who ws spot r.found nth not_yet).0
+
         below_most : length now.pairs < b.pairs
         unfolding pair_free
         below_most =
-            let l : listed spot.second (pairs_of who xs) ≡ false = sym (at_listed b who ws spot r.found) ∙ not_yet in
+            let l : listed spot.second (pairs_of who xs) ≡ false = (at_unlisted b who ws spot r.found nth not_yet).0 in
             let k = ltb-true (length (pairs_of who xs)) b.pairs (rw l at r.pair) in
             rw (here_pairs b who ws spot r.found some a e ha he) at k
 
-        at_most : spot.before ≤ length now.pairs
-        at_most = let k = before_le spot.second now.pairs in let e = (before_is b who ws spot r.found some a e ha he) in omega arith
+        at_most : nth ≤ length now.pairs
+        at_most = let k = before_le spot.second now.pairs in let e = next_is in omega arith
 
-        fits_now : Fits spot.before now
+        fits_now : Fits nth now
         fits_now =
             let k = below_most in
             let c = (here_fine b who ws spot r.found some a e ha he).cells in
             record { there = at_most; room = omega arith }
 
-        pub insert_asks : Wide (mid_of a (e - a) ws) × (spot.before ≤ get_or (mid_of a (e - a) ws) 3 0) × (place_width (get_or (mid_of a (e - a) ws) 3 0 + 1) ≤ length (mid_of a (e - a) ws))
-            × Is encode_place (Fits spot.before) (mid_of a (e - a) ws)
+        pub insert_asks : Wide (mid_of a (e - a) ws) × (nth ≤ get_or (mid_of a (e - a) ws) 3 0) × (place_width (get_or (mid_of a (e - a) ws) 3 0 + 1) ≤ length (mid_of a (e - a) ws))
+            × Is encode_place (Fits nth) (mid_of a (e - a) ws)
         insert_asks =
             let k = below_most in (
               (wide b who ws spot r.found some a e ha he),
@@ -264,31 +275,28 @@ module _ (b : Shares) (who : Deliverer) (ws : List ℕ) (spot : Spot) (r : Roomy
               record { value = now; ok = fits_now; words = here_seen b who ws spot r.found some a e ha he },
             )
 
-        pub enters_pair : (ys : List ℕ) → Turns encode_place (Fits spot.before) (longer_place spot.before spot.second) (λ p. tt {0}) (mid_of a (e - a) ws) ys (tt {0})
+        pub enters_pair : (ys : List ℕ) → Turns encode_place (Fits nth) (longer_place nth spot.second) (λ p. tt {0}) (mid_of a (e - a) ws) ys (tt {0})
             → BodyTurns b (class_of who) (enter b who spot.second) ws (put_mid a (e - a) ws ys)
         enters_pair ys t =
             let y = t.does now fits_now (here_seen b who ws spot r.found some a e ha he) in
-            let s : second_at spot.second (before spot.second now.pairs) now.pairs ≡ false = rw (← (before_is b who ws spot r.found some a e ha he))
-            (sym (hit b who ws spot r.found some a e ha he) ∙ not_yet) in
-            let q : add_pair spot.second now.pairs ≡ insert_at spot.before spot.second now.pairs = add_new spot.second now.pairs s ∙ rw
-            (before_is b who ws spot r.found some a e ha he) in
-            enters_here (longer_place spot.before spot.second now) ys y.0 (ap (λ (z : List Pair). with_pairs z now) (sym q))
+            let q : add_pair spot.second now.pairs ≡ insert_at nth spot.second now.pairs = add_new spot.second now.pairs missed ∙ rw next_is in
+            enters_here (longer_place nth spot.second now) ys y.0 (ap (λ (z : List Pair). with_pairs z now) (sym q))
 
 -- ---- the totals of a class that a draw entered
 pub taken_are : (b : Shares) (c : Class) (who : Deliverer) (s : ℕ) (h : Held) → PlacesOk c b.pairs 0 h.places
-    → taken (totals_of b h) (if_none (entries_of who h.places) 1) (if_none (entries_of who h.places) (place_units b who)) ≡ totals_of b (entered b who s h)
+    → taken (totals_of b h) (only_if (eqb (entries_of who h.places) 0) 1) (only_if (eqb (entries_of who h.places) 0) (place_units b who)) ≡ totals_of b (entered b who s h)
 taken_are b c who s h ok =
     let e = entries_enter b who s h.places in
-    let n : length h.places + if_none (entries_of who h.places) 1 ≡ length (enter b who s h.places) = sym (length_enter c b.pairs b who s 0 h.places ok ∙ holders_sum who h.places) in
-    let u : units b h.places + 1 + if_none (entries_of who h.places) (place_units b who) ≡ units b (enter b who s h.places) = sym
+    let n : length h.places + only_if (eqb (entries_of who h.places) 0) 1 ≡ length (enter b who s h.places) = sym (length_enter c b.pairs b who s 0 h.places ok ∙ holders_sum who h.places) in
+    let u : units b h.places + 1 + only_if (eqb (entries_of who h.places) 0) (place_units b who) ≡ units b (enter b who s h.places) = sym
     (units_enter c b.pairs b who s 0 h.places ok ∙ units_sum b who h.places) in
     let m : entries_in h.places + 1 ≡ entries_in (enter b who s h.places) = omega arith in
     λ i. record { entries = m i; holders = n i; units = u i; expired = h.expired }
 
 -- ---- enter
 module _ (b : Shares) (who : Deliverer) (ws : List ℕ) (spot : Spot) (r : Roomy b who ws spot) where
-  pub enters : (mid : List ℕ) (place first opened : ℕ) (t₀ t : Totals) → place ≡ place_units b who → first ≡ if_none spot.entries 1
-      → opened ≡ if_none spot.entries place → t₀ ≡ totals_in ws → t ≡ taken t₀ first opened
+  pub enters : (mid : List ℕ) (place first opened : ℕ) (t₀ t : Totals) → place ≡ place_units b who → first ≡ only_if (eqb spot.seen.entries 0) 1
+      → opened ≡ only_if (eqb spot.seen.entries 0) place → t₀ ≡ totals_in ws → t ≡ taken t₀ first opened
       → BodyTurns b (class_of who) (enter b who spot.second) ws mid
       → ClassTurns b (class_of who) (entered b who spot.second) (λ h. tt {0}) ws (t.entries ∷ t.holders ∷ t.units ∷ t.expired ∷ drop class_head mid) (tt {0})
   enters mid place first opened t₀ t hp hf ho h₀ ht body =
@@ -296,8 +304,8 @@ module _ (b : Shares) (who : Deliverer) (ws : List ℕ) (spot : Spot) (r : Roomy
       let h = w.is.value in
       let e = at_entries b who ws spot r.found in
       let s : t₀ ≡ totals_of b h = h₀ ∙ totals_are b (class_of who) ws w in
-      let f : first ≡ if_none (entries_of who h.places) 1 = hf ∙ ap (λ (n : ℕ). if_none n 1) e in
-      let o : opened ≡ if_none (entries_of who h.places) (place_units b who) = ho ∙ ap₂ if_none e hp in
+      let f : first ≡ only_if (eqb (entries_of who h.places) 0) 1 = hf ∙ ap (λ (n : ℕ). only_if (eqb n 0) 1) e in
+      let o : opened ≡ only_if (eqb (entries_of who h.places) 0) (place_units b who) = ho ∙ ap₂ (λ (n : ℕ). only_if (eqb n 0)) e hp in
       let x : t ≡ totals_of b (entered b who spot.second h) = ht ∙ rw (s, f, o) (taken_are b (class_of who) who spot.second h w.is.ok.1.0.1) in
       turns_one b (class_of who) ws w.is
       (class_words b (class_of who) (entered b who spot.second h) t (drop class_head mid) x (body.does h w.is.ok w.is.words)) refl
@@ -314,7 +322,7 @@ module _ (b : Shares) (who : Deliverer) (s : ℕ) (ws : List ℕ) (w : ClassIs b
   unfoldable pub found_of : Found b who ws spot
   found_of =
       let e = second_is in
-      let n = ap (λ (z : Spot). z.entries) spot_is in
+      let n = ap (λ (z : Spot). z.seen.entries) spot_is in
       let l = entries_le who w.is.value.places in
       let k = w.entries in
       let q : get_or ws 0 0 ≡ entries_in w.is.value.places = ap (λ (z : List ℕ). get_or z 0 0) w.is.words in
@@ -365,36 +373,30 @@ module _ (b : Shares) (who : Deliverer) (s : ℕ) (ws : List ℕ) (w : ClassIs b
 
 -- ---- what the totals ask, and a deliverer's entries
 pub take_asks : (b : Shares) (who : Deliverer) (ws : List ℕ) (spot : Spot) (w : ClassIs b (class_of who) ws) (place first opened : ℕ) (t : Totals)
-    → place ≡ place_units b who → first ≡ if_none spot.entries 1 → opened ≡ if_none spot.entries place → t ≡ totals_in ws
+    → place ≡ place_units b who → first ≡ only_if (eqb spot.seen.entries 0) 1 → opened ≡ only_if (eqb spot.seen.entries 0) place → t ≡ totals_in ws
     → (t.entries ≤ 4_000_000) × (t.holders ≤ 64) × (t.units ≤ 4_000_000) × (first ≤ 1) × (opened ≤ 4_096)
 take_asks b who ws spot w place first opened t hp hf ho ht =
     let u = units_small b who w.feeder w.peer in
-    let f = if_none_le spot.entries 1 in
-    let o = if_none_le spot.entries place in
+    let f = only_if_le (eqb spot.seen.entries 0) 1 in
+    let o = only_if_le (eqb spot.seen.entries 0) place in
     let e = w.entries in
     let n = w.holders in
     let p = w.places in
     let v = w.units in
     rw ht (omega arith, omega arith, omega arith, omega arith, omega arith)
 
-pub held_none : (b : Shares) (who : Deliverer) (ws : List ℕ) (w : ClassIs b (class_of who) ws) (at : ℕ)
-    → ClassReads b (class_of who) (λ h. place_index who h.places) ws at → get_or ws 1 0 ≤ at
-    → ClassReads b (class_of who) (λ h. entries_of who h.places) ws 0
-held_none b who ws w at r h =
-    let k = holders_are b (class_of who) ws w in
-    let i = index_is b who 0 ws w at r in
-    reads_one b (class_of who) ws w.is (sym (entries_none who 0 w.is.value.places (omega arith)))
+pub held_none : (b : Shares) (who : Deliverer) (ws : List ℕ) (w : ClassIs b (class_of who) ws)
+    → ClassReads b (class_of who) (λ h. place_of who h.places) ws None → ClassReads b (class_of who) (λ h. entries_of who h.places) ws 0
+held_none b who ws w r = reads_one b (class_of who) ws w.is (sym (entries_none who 0 w.is.value.places (nowhere b who ws w r)))
 
 pub held_here : (b : Shares) (who : Deliverer) (ws : List ℕ) (w : ClassIs b (class_of who) ws) (at : ℕ)
-    → ClassReads b (class_of who) (λ h. place_index who h.places) ws at → at < get_or ws 1 0 → (a : ℕ) → a ≡ class_head + at * place_width b.pairs
+    → ClassReads b (class_of who) (λ h. place_of who h.places) ws (Some at) → (a : ℕ) → a ≡ class_head + at * place_width b.pairs
     → ClassReads b (class_of who) (λ h. entries_of who h.places) ws (get_or ws (a + 2) 0)
-held_here b who ws w at r h a ha =
+held_here b who ws w at r a ha =
+    let h = in_use b who ws w at r in
     let k = holders_are b (class_of who) ws w in
-    let i = index_is b who 0 ws w at r in
+    let i = index_is b who ws w at r in
     let v = word_of b (class_of who) ws w at a (a + place_width b.pairs) h ha refl 2 (a + 2) (omega arith) refl in
     let n = entries_at who 0 w.is.value.places (omega arith) in
     let u : entries_of who w.is.value.places ≡ entries (get_or w.is.value.places at nobody) = rw (← i) at n in
     reads_one b (class_of who) ws w.is (v ∙ sym u)
-
-pub held_totals : (ws : List ℕ) (t : Totals) → t ≡ totals_in ws → (b : Shares) (c : Class) → ClassReads b c (totals_of b) ws t
-held_totals ws t e b c = record { says = λ h ok is. e ∙ ap totals_in is }

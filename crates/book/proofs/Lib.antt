@@ -1,4 +1,3 @@
-pub mod Judging
 pub mod PlaceTurns
 pub mod ClassWords
 pub mod ClassLists

@@ -1,9 +1,8 @@
 -- A place's words, its head and its cells: what src/place.rt does to them, said of the place.
-use Prim.Native.Nat.{ℕ, suc, ◌+◌, ◌-◌, ◌*◌, ◌≤◌}
+use Prim.Native.Nat.{ℕ, suc, ◌+◌, ◌-◌, ◌*◌, ◌<◌, ◌≤◌}
 use native.Mathlib.Nat.{zero-add}
 use native.Mathlib.Omega.{arith}
 use mathlib.Core.Path.{◌≡◌, refl, ap, sym, ◌∙◌}
-use mathlib.Core.Bool.{Bool}
 use mathlib.Core.List.{List, [], ◌∷◌, ◌++◌, append-nil}
 use lib.ListN.{length, get_or, set, take, drop, replicate, length-drop, length-set, drop_of_length-le}
 use lib.Seq.{take_all, drop-drop}
@@ -17,11 +16,10 @@ use Rattle.model.specs.Class.{kind_of}
 use Rattle.model.specs.Book.{Pair, Place, total, entries, with_pairs, later_pairs}
 use Rattle.model.specs.BookWords.{most_entries, pair_words, read_pairs, encode_place, number_word}
 use Rattle.model.proofs.BookWords.{read_flat, length_read}
-use Rattle.book.specs.declared.place.Seen.{Seen}
 use Rattle.pairs.specs.declared.Passed.{Passed}
-use Rattle.pairs.specs.Pairs.{Cells, cells_words, before, passed_in, second_at, raise_at, lower_at, insert_at, remove_at, raised, lowered, inserted, removed, Holds, Takes, Loses}
-use Rattle.book.specs.PlaceRules.{pairs_in, seen_in, Wide, Has, Single, Fits, Sums, raised_place, lowered_place, shorter_place, longer_place, later_place, left_of, headed, opened_words}
-use Rattle.pairs.proofs.PairWords.{total_part}
+use Rattle.pairs.specs.Pairs.{Cells, cells_words, before, passed_in, count_at, raise_at, lower_at, insert_at, remove_at, raised, lowered, inserted, removed, Holds, Takes, Loses}
+use Rattle.book.specs.PlaceRules.{pairs_in, Wide, Has, Single, Fits, Sums, raised_place, lowered_place, shorter_place, longer_place, later_place, left_of, headed, opened_words}
+use Rattle.pairs.proofs.PairWords.{total_part, count_here}
 use Rattle.pairs.proofs.PairLists.{before_le, later_drop, length_raise, length_lower_at, total_raise, total_lower_at, length_insert, total_insert, length_remove, total_remove}
 
 -- ---- the words after the head
@@ -40,22 +38,26 @@ put_tail a b e n cells ys =
     let d = drop_of_length-le cells {i = length (a ∷ b ∷ e ∷ n ∷ cells) - place_head} (omega arith) in
     ap (λ (z : List ℕ). a ∷ b ∷ e ∷ n ∷ z) (rw (d, append-nil))
 
+-- the head stays where others come behind it
+pub entries_kept : (ws ys : List ℕ) → place_head ≤ length ws → get_or (with_cells ws ys) 2 0 ≡ get_or ws 2 0
+entries_kept [] ys h = absurd (omega arith)
+entries_kept (a ∷ []) ys h = absurd (omega arith)
+entries_kept (a ∷ b ∷ []) ys h = absurd (omega arith)
+entries_kept (a ∷ b ∷ e ∷ ws) ys h = refl
+
+pub pairs_kept : (ws ys : List ℕ) (m : ℕ) → place_head ≤ length ws → get_or (set (with_cells ws ys) 2 m) 3 0 ≡ get_or ws 3 0
+pairs_kept [] ys m h = absurd (omega arith)
+pairs_kept (a ∷ []) ys m h = absurd (omega arith)
+pairs_kept (a ∷ b ∷ []) ys m h = absurd (omega arith)
+pairs_kept (a ∷ b ∷ e ∷ []) ys m h = absurd (omega arith)
+pairs_kept (a ∷ b ∷ e ∷ n ∷ ws) ys m h = refl
+
 -- ---- a new place: its head, and then its first pair
 pub new_head : (who : Deliverer) (k i : ℕ) (ws : List ℕ) → place_width 1 ≤ length ws → k ≡ kind_of who → i ≡ number_word who 0
     → set (set (set (set ws 0 k) 1 i) 2 1) 3 1 ≡ headed who (drop place_head ws)
 new_head who k i ws h hk hi =
     let e = firsts_are place_head 0 ws (omega arith) in
     ap (λ (z : List ℕ). set (set (set (set z 0 k) 1 i) 2 1) 3 1) e ∙ rw (hk, hi)
-
-module _ (k i : ℕ) (ws : List ℕ) where
-  abbrev with_head : List ℕ
-  with_head = set (set (set (set ws 0 k) 1 i) 2 1) 3 1
-
-  pub head_long : length with_head ≡ length ws
-  head_long = simp length-set
-
-  pub head_room : place_width 1 ≤ length ws → 2 ≤ length (cells_in with_head)
-  head_room h = let l = head_long in rw (tail_is with_head, length-drop) (omega arith)
 
 pub opens : (who : Deliverer) (s : ℕ) (ws zs ys : List ℕ) → place_width 1 ≤ length ws → zs ≡ headed who (drop place_head ws)
     → Turns cells_words (Takes 0 0) (inserted 0 s) (λ x. tt {0}) (cells_in zs) ys (tt {0})
@@ -212,8 +214,10 @@ module _ (ws ys : List ℕ) (t m gone : ℕ) (hm : m ≡ before t (pairs_in ws))
 pub tail_long : (ws : List ℕ) → Wide ws → 2 * get_or ws 3 0 ≤ length (cells_in ws)
 tail_long ws w = let k = w.long in rw (tail_is ws, length-drop) (omega arith)
 
-pub tail_sum : (ws : List ℕ) → Wide ws → total (read_pairs (get_or ws 3 0) (cells_in ws)) ≤ most_entries
-tail_sum ws w = rw (tail_is ws) w.sum
+-- the count of pair k, as it lies among the cells
+pub count_word : (ws : List ℕ) (k : ℕ) → Wide ws → k < get_or ws 3 0
+    → (2 * k + 1 < length (cells_in ws)) × (get_or (cells_in ws) (2 * k + 1) 0 ≡ count_at k (pairs_in ws))
+count_word ws k w h = let l = tail_long ws w in (omega arith, rw (tail_is ws) (count_here (get_or ws 3 0) k (drop place_head ws) h))
 
 -- what the walk over the earlier pairs found
 pub record Went (ws : List ℕ) (t : ℕ) (r : Passed) : Type 0 where
@@ -229,8 +233,3 @@ went ws t r e =
     let l = length_read (get_or ws 3 0) (drop place_head ws) in
     let m = total_part (before t (pairs_in ws)) (pairs_in ws) in
     rw f (record { pairs = refl; entries = refl; few = omega arith; small = omega arith })
-
-pub looked : (ws : List ℕ) (s : ℕ) (r : Passed) (hit : Bool) → r ≡ passed_in s (read_pairs (get_or ws 3 0) (cells_in ws))
-    → hit ≡ second_at s r.pairs (read_pairs (get_or ws 3 0) (cells_in ws))
-    → ◌≡◌ {A = Seen} (record { entries = get_or ws 2 0; pairs = get_or ws 3 0; before = r.pairs; listed = hit }) (seen_in s ws)
-looked ws s r hit e h = rw (h, e, tail_is ws)

@@ -5,6 +5,7 @@ use native.Mathlib.Omega.{arith}
 use mathlib.Core.Path.{◌≡◌, refl, ap, ap₂, sym, subst, ◌∙◌}
 use mathlib.Core.Bool.{true, false}
 use mathlib.Core.List.{List, [], ◌∷◌, ◌++◌, append_assoc}
+use Rattle.std.proofs.Common.{Ok, Err}
 use lib.ListN.{length, get_or, take, drop, replicate, length-append, replicate-append-replicate}
 use lib.Seq.{drop_at}
 use lib.Dec.{eqb, ltb}
@@ -26,7 +27,7 @@ use Rattle.model.proofs.Places.{holds_some, same_is}
 use Rattle.book.specs.declared.Spot.{Spot}
 use Rattle.book.specs.declared.totals.Totals.{Totals}
 use Rattle.book.specs.Sums.{totals_in, totals_of, untaken}
-use Rattle.book.specs.Rules.{if_one}
+use Rattle.book.specs.Rules.{only_if}
 use Rattle.pairs.specs.Pairs.{before, second_at, count_at, lower_at, remove_at}
 use Rattle.book.specs.PlaceRules.{pairs_in, Wide, Has, Single, lowered_place, shorter_place}
 use Rattle.book.specs.ClassRules.{ClassIs, ClassReads, ClassTurns, place_index, spot_of, Found, Listed, BodyTurns, returned}
@@ -35,8 +36,8 @@ use Rattle.pairs.proofs.PairLists.{second_below, lower_many, lower_last, lower_n
 use Rattle.book.proofs.ClassWords.{nobody, turns_one, flat_long, up_flat, few, cut, back_ok, holders_are, totals_are, words_cut, lead, lead_long, rest, here_ok}
 use Rattle.book.proofs.ClassWords.{seen_here, put_here, front_long, place_long}
 use Rattle.book.proofs.ClassLists.{index_same, entries_at, pairs_at, pairs_none, back_at, back_none, entries_append, units_append}
-use Rattle.book.proofs.Spots.{at_index, at_entries, at_listed, at_before, has_one}
-use Rattle.book.proofs.Finding.{place_wide}
+use Rattle.book.proofs.Spots.{at_index, at_entries, at_listed, at_unlisted, has_one}
+use Rattle.book.proofs.Finding.{only_if_le, place_wide}
 use Rattle.book.proofs.Entering.{body_one, same_many, class_words, count_in, count_some, second_is, found_of}
 
 -- ---- what is left of a place's pairs
@@ -73,18 +74,15 @@ above zero h k = absurd (omega arith)
 above (suc zero) h k = absurd (k refl)
 above (suc (suc n)) h k = omega arith
 
-if_one_le : (h n : ℕ) → if_one h n ≤ n
-if_one_le h n = by_test (eqb h 1) (λ e. rw e (omega arith)) (λ e. rw e (omega arith))
-
 module _ (b : Shares) (who : Deliverer) (ws : List ℕ) (spot : Spot) (f : Found b who ws spot) where
   abbrev xs : List Place
   xs = f.class.is.value.places
 
   -- ---- the second is not listed
-  pub back_unlisted : spot.listed ≡ false → give_back who spot.second xs ≡ xs
-  back_unlisted no-entry =
+  pub back_unlisted : (nth : ℕ) → spot.seen.pair ≡ Err nth → give_back who spot.second xs ≡ xs
+  back_unlisted nth no-entry =
       let i = at_index b who ws spot f in
-      let h : listed spot.second (pairs_of who xs) ≡ false = sym (at_listed b who ws spot f) ∙ no-entry in
+      let h : listed spot.second (pairs_of who xs) ≡ false = (at_unlisted b who ws spot f nth no-entry).0 in
       by_test (ltb spot.place (length xs))
       (λ t.
       let k = ltb-true spot.place (length xs) t in
@@ -97,8 +95,8 @@ module _ (b : Shares) (who : Deliverer) (ws : List ℕ) (spot : Spot) (f : Found
       (λ e. back_none who spot.second xs (let k = ltb-false spot.place (length xs) e in omega arith))
 
   -- ---- the second is listed
-  module _ (yes : spot.listed ≡ true) where
-    pub some_held : spot.entries ≡ 0 → ⊥
+  module _ (nth : ℕ) (yes : spot.seen.pair ≡ Ok nth) where
+    pub some_held : spot.seen.entries ≡ 0 → ⊥
     some_held z =
         let i = at_index b who ws spot f in
         let n = at_entries b who ws spot f in
@@ -110,7 +108,7 @@ module _ (b : Shares) (who : Deliverer) (ws : List ℕ) (spot : Spot) (f : Found
         omega arith)
         (λ e.
         let q = pairs_none who spot.second xs (ltb-false (place_index who xs) (length xs) e) in
-        let u : listed spot.second [] ≡ true = rw q at (sym (at_listed b who ws spot f) ∙ yes) in
+        let u : listed spot.second [] ≡ true = rw q at (at_listed b who ws spot f nth yes).0 in
         let o : ◌≡◌ {A = ℕ} 0 1 = absurd_listed spot.second u in
         omega arith)
 
@@ -132,23 +130,23 @@ module _ (b : Shares) (who : Deliverer) (ws : List ℕ) (spot : Spot) (f : Found
     pairs_now : pairs_of who xs ≡ now.pairs
     pairs_now = let i = at_index b who ws spot f in let l = at_one in rw (← i) at (pairs_at who spot.second xs (omega arith))
 
-    entries_now : spot.entries ≡ entries now
+    entries_now : spot.seen.entries ≡ entries now
     entries_now =
         let i = at_index b who ws spot f in
         let l = at_one in
         at_entries b who ws spot f ∙ (rw (← i) at (entries_at who spot.second xs (omega arith)))
 
-    before_now : spot.before ≡ before spot.second now.pairs
-    before_now = at_before b who ws spot f ∙ ap (before spot.second) pairs_now
+    before_now : nth ≡ before spot.second now.pairs
+    before_now = (at_listed b who ws spot f nth yes).1 ∙ ap (before spot.second) pairs_now
 
     listed_now : listed spot.second now.pairs ≡ true
-    listed_now = rw pairs_now at (sym (at_listed b who ws spot f) ∙ yes)
+    listed_now = rw pairs_now at (at_listed b who ws spot f nth yes).0
 
-    hit_now : second_at spot.second spot.before now.pairs ≡ true
+    hit_now : second_at spot.second nth now.pairs ≡ true
     hit_now = rw before_now (sym (listed_at 0 spot.second now.pairs fine.pairs) ∙ listed_now)
 
-    there : spot.before < length now.pairs
-    there = second_below spot.second spot.before now.pairs hit_now
+    there : nth < length now.pairs
+    there = second_below spot.second nth now.pairs hit_now
 
     abbrev left : List Pair
     left = lower_pair spot.second (get_or f.class.is.value.places spot.place nobody).pairs
@@ -179,7 +177,7 @@ module _ (b : Shares) (who : Deliverer) (ws : List ℕ) (spot : Spot) (f : Found
     length_cut = ap length (cut b (class_of who) ws f.class spot.place at_one) ∙ length-append front (now ∷ back)
 
     -- ---- the place goes
-    module _ (last : spot.entries ≡ 1) where
+    module _ (last : spot.seen.entries ≡ 1) where
       none_left : left ≡ []
       none_left = gone_pairs left (lower_sound 0 spot.second now.pairs fine.pairs) (let o = one_less in let e = entries_now in omega arith)
 
@@ -223,7 +221,7 @@ module _ (b : Shares) (who : Deliverer) (ws : List ℕ) (spot : Spot) (f : Found
             (ap (drop class_head) p ∙ sym g ∙ sym (up_flat c b.pairs b.places (front ++ back) (omega arith)) ∙ ap (enc_up (place_form c b.pairs) b.places) (sym back_shorter))
 
     -- ---- the place stays
-    module _ (more : spot.entries ≡ 1 → ⊥) where
+    module _ (more : spot.seen.entries ≡ 1 → ⊥) where
       stays : 1 ≤ total left
       stays = positive (total left) (λ z. more (entries_now ∙ sym one_less ∙ ap suc z))
 
@@ -237,24 +235,24 @@ module _ (b : Shares) (who : Deliverer) (ws : List ℕ) (spot : Spot) (f : Found
         wide_now : Wide (mid_of a (e - a) ws)
         wide_now = rw seen (place_wide (class_of who) b.pairs now fine f.class.pairs)
 
-        below_now : spot.before < get_or (mid_of a (e - a) ws) 3 0
+        below_now : nth < get_or (mid_of a (e - a) ws) 3 0
         below_now = rw seen there
 
         some_entries : 1 ≤ get_or (mid_of a (e - a) ws) 2 0
         some_entries = rw seen (holds_some (class_of who) b.pairs now fine)
 
-        count_now : count_at spot.before (pairs_in (mid_of a (e - a) ws)) ≡ count_at spot.before now.pairs
-        count_now = rw seen (count_in now spot.before)
+        count_now : count_at nth (pairs_in (mid_of a (e - a) ws)) ≡ count_at nth now.pairs
+        count_now = rw seen (count_in now nth)
 
-        pub count_asks : Wide (mid_of a (e - a) ws) × (spot.before < get_or (mid_of a (e - a) ws) 3 0)
+        pub count_asks : Wide (mid_of a (e - a) ws) × (nth < get_or (mid_of a (e - a) ws) 3 0)
         count_asks = (wide_now, below_now)
 
-        has_now : Has spot.before now
-        has_now = record { there = there; some = count_some 0 spot.before now.pairs fine.pairs there }
+        has_now : Has nth now
+        has_now = record { there = there; some = count_some 0 nth now.pairs fine.pairs there }
 
-        pub lower_asks : Wide (mid_of a (e - a) ws) × (spot.before < get_or (mid_of a (e - a) ws) 3 0)
-            × (1 ≤ count_at spot.before (pairs_in (mid_of a (e - a) ws))) × (1 ≤ get_or (mid_of a (e - a) ws) 2 0)
-            × Is encode_place (Has spot.before) (mid_of a (e - a) ws)
+        pub lower_asks : Wide (mid_of a (e - a) ws) × (nth < get_or (mid_of a (e - a) ws) 3 0)
+            × (1 ≤ count_at nth (pairs_in (mid_of a (e - a) ws))) × (1 ≤ get_or (mid_of a (e - a) ws) 2 0)
+            × Is encode_place (Has nth) (mid_of a (e - a) ws)
         lower_asks = (wide_now, below_now, rw count_now has_now.some, some_entries, record { value = now; ok = has_now; words = seen })
 
         returns_here : (q : Place) (ys : List ℕ) → ys ≡ encode_place q → q ≡ with_pairs left now
@@ -271,48 +269,48 @@ module _ (b : Shares) (who : Deliverer) (ws : List ℕ) (spot : Spot) (f : Found
         hit_before : second_at spot.second (before spot.second now.pairs) now.pairs ≡ true
         hit_before = rw (← before_now) hit_now
 
-        module _ (n : ℕ) (hn : n ≡ count_at spot.before (pairs_in (mid_of a (e - a) ws))) where
-          single_now : n ≡ 1 → Single spot.before now
+        module _ (n : ℕ) (hn : n ≡ count_at nth (pairs_in (mid_of a (e - a) ws))) where
+          single_now : n ≡ 1 → Single nth now
           single_now one = record { there = there; one = sym count_now ∙ sym hn ∙ one }
 
-          pub remove_asks : n ≡ 1 → Wide (mid_of a (e - a) ws) × (spot.before < get_or (mid_of a (e - a) ws) 3 0) × (1 ≤ get_or (mid_of a (e - a) ws) 2 0)
-              × Is encode_place (Single spot.before) (mid_of a (e - a) ws)
+          pub remove_asks : n ≡ 1 → Wide (mid_of a (e - a) ws) × (nth < get_or (mid_of a (e - a) ws) 3 0) × (1 ≤ get_or (mid_of a (e - a) ws) 2 0)
+              × Is encode_place (Single nth) (mid_of a (e - a) ws)
           remove_asks one = (wide_now, below_now, some_entries, record { value = now; ok = single_now one; words = seen })
 
-          pub returns_single : n ≡ 1 → (ys : List ℕ) → Turns encode_place (Single spot.before) (shorter_place spot.before) (λ p. tt {0}) (mid_of a (e - a) ws) ys (tt {0})
+          pub returns_single : n ≡ 1 → (ys : List ℕ) → Turns encode_place (Single nth) (shorter_place nth) (λ p. tt {0}) (mid_of a (e - a) ws) ys (tt {0})
               → BodyTurns b (class_of who) (give_back who spot.second) ws (put_mid a (e - a) ws ys)
           returns_single one ys t =
               let c = (single_now one).one in
               let y = t.does now (single_now one) seen in
               let d : count_at (before spot.second now.pairs) now.pairs ≤ 1 = rw (← before_now) (omega arith) in
-              let q : left ≡ remove_at spot.before 1 now.pairs = lower_last spot.second now.pairs hit_before d ∙ rw before_now in
-              returns_here (shorter_place spot.before now) ys y.0 (ap (λ (z : List Pair). with_pairs z now) (sym q))
+              let q : left ≡ remove_at nth 1 now.pairs = lower_last spot.second now.pairs hit_before d ∙ rw before_now in
+              returns_here (shorter_place nth now) ys y.0 (ap (λ (z : List Pair). with_pairs z now) (sym q))
 
-          pub returns_lower : (n ≡ 1 → ⊥) → (ys : List ℕ) → Turns encode_place (Has spot.before) (lowered_place spot.before) (λ p. tt {0}) (mid_of a (e - a) ws) ys (tt {0})
+          pub returns_lower : (n ≡ 1 → ⊥) → (ys : List ℕ) → Turns encode_place (Has nth) (lowered_place nth) (λ p. tt {0}) (mid_of a (e - a) ws) ys (tt {0})
               → BodyTurns b (class_of who) (give_back who spot.second) ws (put_mid a (e - a) ws ys)
           returns_lower many ys t =
               let s = has_now.some in
               let y = t.does now has_now seen in
-              let c : n ≡ count_at spot.before now.pairs = hn ∙ count_now in
-              let g : 1 < count_at spot.before now.pairs = rw (← c) (above n (rw (← c) at s) many) in
+              let c : n ≡ count_at nth now.pairs = hn ∙ count_now in
+              let g : 1 < count_at nth now.pairs = rw (← c) (above n (rw (← c) at s) many) in
               let d : 1 < count_at (before spot.second now.pairs) now.pairs = rw (← before_now) g in
-              let q : left ≡ lower_at spot.before now.pairs = lower_many spot.second now.pairs hit_before d ∙ rw before_now in
-              returns_here (lowered_place spot.before now) ys y.0 (ap (λ (z : List Pair). with_pairs z now) (sym q))
+              let q : left ≡ lower_at nth now.pairs = lower_many spot.second now.pairs hit_before d ∙ rw before_now in
+              returns_here (lowered_place nth now) ys y.0 (ap (λ (z : List Pair). with_pairs z now) (sym q))
 
     -- ---- the totals
-    pub untake_asks : (place gone freed : ℕ) (t : Totals) → place ≡ place_units b who → gone ≡ if_one spot.entries 1 → freed ≡ if_one spot.entries place → t ≡ totals_in ws
+    pub untake_asks : (place gone freed : ℕ) (t : Totals) → place ≡ place_units b who → gone ≡ only_if (eqb spot.seen.entries 1) 1 → freed ≡ only_if (eqb spot.seen.entries 1) place → t ≡ totals_in ws
         → (1 ≤ t.entries) × (gone ≤ t.holders) × (1 + freed ≤ t.units)
     untake_asks place gone freed t hp hg hf ht =
         let s = holds_some (class_of who) b.pairs now fine in
         let e = entries_cut in
         let u = units_cut in
         let n = length_cut in
-        let g = if_one_le spot.entries 1 in
-        let h = if_one_le spot.entries place in
+        let g = only_if_le (eqb spot.seen.entries 1) 1 in
+        let h = only_if_le (eqb spot.seen.entries 1) place in
         let v : place ≡ place_units b now.who = hp ∙ ap (place_units b) whose in
         rw (ht ∙ totals_are b (class_of who) ws f.class) (omega arith, omega arith, omega arith)
 
-    pub untaken_are : (place gone freed : ℕ) → place ≡ place_units b who → gone ≡ if_one spot.entries 1 → freed ≡ if_one spot.entries place
+    pub untaken_are : (place gone freed : ℕ) → place ≡ place_units b who → gone ≡ only_if (eqb spot.seen.entries 1) 1 → freed ≡ only_if (eqb spot.seen.entries 1) place
         → untaken (totals_of b f.class.is.value) gone freed ≡ totals_of b (returned who spot.second f.class.is.value)
     unfolding entries_in units with_pairs
     untaken_are place gone freed hp hg hf =
@@ -322,9 +320,9 @@ module _ (b : Shares) (who : Deliverer) (ws : List ℕ) (spot : Spot) (f : Found
         let o = one_less in
         let en = entries_now in
         let v : place ≡ place_units b now.who = hp ∙ ap (place_units b) whose in
-        by_test (eqb spot.entries 1)
+        by_test (eqb spot.seen.entries 1)
         (λ t.
-        let one = eqb-true spot.entries 1 t in
+        let one = eqb-true spot.seen.entries 1 t in
         let k = back_shorter one in
         let g : gone ≡ 1 = hg ∙ rw t in
         let h : freed ≡ place = hf ∙ rw t in
@@ -333,7 +331,7 @@ module _ (b : Shares) (who : Deliverer) (ws : List ℕ) (spot : Spot) (f : Found
         let z : units b xs - 1 - freed ≡ units b (front ++ back) = rw units_append (omega arith) in
         rw k (λ i. record { entries = x i; holders = y i; units = z i; expired = f.class.is.value.expired }))
         (λ t.
-        let k = back_same (eqb-false spot.entries 1 t) in
+        let k = back_same (eqb-false spot.seen.entries 1 t) in
         let g : gone ≡ 0 = hg ∙ rw t in
         let h : freed ≡ 0 = hf ∙ rw t in
         let x : entries_in xs - 1 ≡ entries_in (front ++ with_pairs left now ∷ back) = rw entries_append (omega arith) in
@@ -347,32 +345,32 @@ module _ (b : Shares) (who : Deliverer) (s : ℕ) (ws : List ℕ) (w : ClassIs b
   unfoldable pub found : Found b who ws spot
   found = found_of b who s ws w spot r
 
-  pub untakes_none : spot.listed ≡ false → ClassTurns b (class_of who) (returned who s) (λ h. tt {0}) ws ws (tt {0})
+  pub untakes_none : (nth : ℕ) → spot.seen.pair ≡ Err nth → ClassTurns b (class_of who) (returned who s) (λ h. tt {0}) ws ws (tt {0})
   unfolding found_of found
-  untakes_none e =
+  untakes_none nth e =
       let k : give_back who s w.is.value.places ≡ w.is.value.places = subst (λ (z : ℕ). give_back who z w.is.value.places ≡ w.is.value.places)
-      (second_is b who s ws w spot r) (back_unlisted b who ws spot found e) in
+      (second_is b who s ws w spot r) (back_unlisted b who ws spot found nth e) in
       turns_one b (class_of who) ws w.is (rw k w.is.words) refl
 
-  module _ (yes : spot.listed ≡ true) where
-    pub listed_of : Listed b who ws spot
+  module _ (nth : ℕ) (yes : spot.seen.pair ≡ Ok nth) where
+    pub listed_of : Listed b who ws spot nth
     unfolding found_of found
     listed_of =
         let k = holders_are b (class_of who) ws w in
-        let l = has_one b who ws spot found (some_held b who ws spot found yes) in
+        let l = has_one b who ws spot found (some_held b who ws spot found nth yes) in
         let at : suc spot.place ≤ get_or ws 1 0 = omega arith in
         let m = mul-le-mul_right (place_width b.pairs) at in
         let n = suc-mul spot.place (place_width b.pairs) in
         let u = w.used in
         record { found = found; yes = yes; within = omega arith; before_end = omega arith }
 
-    pub untakes : (mid : List ℕ) (place gone freed : ℕ) (t₀ t : Totals) → place ≡ place_units b who → gone ≡ if_one spot.entries 1 → freed ≡ if_one spot.entries place
+    pub untakes : (mid : List ℕ) (place gone freed : ℕ) (t₀ t : Totals) → place ≡ place_units b who → gone ≡ only_if (eqb spot.seen.entries 1) 1 → freed ≡ only_if (eqb spot.seen.entries 1) place
         → t₀ ≡ totals_in ws → t ≡ untaken t₀ gone freed → BodyTurns b (class_of who) (give_back who spot.second) ws mid
         → ClassTurns b (class_of who) (returned who s) (λ h. tt {0}) ws (t.entries ∷ t.holders ∷ t.units ∷ t.expired ∷ drop class_head mid) (tt {0})
     unfolding found_of found
     untakes mid place gone freed t₀ t hp hg hf h₀ ht body =
         let h = w.is.value in
-        let x : t ≡ totals_of b (returned who spot.second h) = ht ∙ rw (h₀ ∙ totals_are b (class_of who) ws w) (untaken_are b who ws spot found yes place gone freed hp hg hf) in
+        let x : t ≡ totals_of b (returned who spot.second h) = ht ∙ rw (h₀ ∙ totals_are b (class_of who) ws w) (untaken_are b who ws spot found nth yes place gone freed hp hg hf) in
         let e = second_is b who s ws w spot r in
         let y : t.entries ∷ t.holders ∷ t.units ∷ t.expired ∷ drop class_head mid ≡ (class_form b (class_of who)).enc (returned who spot.second h) =
         class_words b (class_of who) (returned who spot.second h) t (drop class_head mid) x (body.does h w.is.ok w.is.words) in

@@ -1,8 +1,10 @@
 -- A deliverer and a second that were looked up: where they lie in the words.
-use Prim.Native.Nat.{ℕ, ◌+◌, ◌-◌, ◌*◌, ◌<◌, ◌≤◌}
+use Prim.Native.Nat.{ℕ, ◌+◌, ◌-◌, ◌*◌, ◌<◌}
 use native.Mathlib.Omega.{arith}
-use mathlib.Core.Path.{◌≡◌, ap, ◌∙◌}
+use mathlib.Core.Path.{◌≡◌, refl, ap, sym, ◌∙◌}
+use mathlib.Core.Bool.{Bool, true, false}
 use mathlib.Core.List.{List}
+use Rattle.std.proofs.Common.{Ok, Err}
 use lib.ListN.{length, get_or}
 use lib.Dec.{ltb}
 use borrow.Author.Tests.{ltb-true, ltb-false}
@@ -16,12 +18,21 @@ use Rattle.model.specs.Book.{Place, entries_of, pairs_of, listed}
 use Rattle.model.specs.BookWords.{encode_place, PlaceOk}
 use Rattle.book.specs.declared.Spot.{Spot}
 use Rattle.pairs.specs.Pairs.{before, second_at}
-use Rattle.book.specs.PlaceRules.{Wide}
+use Rattle.book.specs.PlaceRules.{Wide, found_at}
 use Rattle.book.specs.ClassRules.{ClassIs, place_index, Found}
 use Rattle.pairs.proofs.PairLists.{listed_at}
-use Rattle.book.proofs.ClassWords.{nobody, holders_are, here_ok, seen_here}
-use Rattle.book.proofs.ClassLists.{index_le, entries_none, pairs_at}
+use Rattle.book.proofs.ClassWords.{nobody, here_ok, seen_here}
+use Rattle.book.proofs.ClassLists.{entries_none, pairs_at}
 use Rattle.book.proofs.Finding.{place_wide}
+
+-- ---- the pair of a second
+found_ok : (hit : Bool) (n k : ℕ) → found_at hit n ≡ Ok k → (hit ≡ true) × (k ≡ n)
+found_ok true n k e = (refl, cc)
+found_ok false n k e = absurd (cc)
+
+found_err : (hit : Bool) (n k : ℕ) → found_at hit n ≡ Err k → (hit ≡ false) × (k ≡ n)
+found_err true n k e = absurd (cc)
+found_err false n k e = (refl, cc)
 
 module _ (b : Shares) (who : Deliverer) (ws : List ℕ) (spot : Spot) (f : Found b who ws spot) where
   abbrev pub cw : ClassIs b (class_of who) ws
@@ -33,27 +44,22 @@ module _ (b : Shares) (who : Deliverer) (ws : List ℕ) (spot : Spot) (f : Found
   pub at_index : spot.place ≡ place_index who xs
   at_index = ap (λ (z : Spot). z.place) f.at
 
-  -- few places come before it
-  pub place_few : spot.place ≤ 64
-  place_few =
-      let i = at_index in
-      let l = index_le who xs in
-      let n = holders_are b (class_of who) ws cw in
-      let h = cw.holders in
-      let p = cw.places in
-      omega arith
+  pub at_entries : spot.seen.entries ≡ entries_of who xs
+  at_entries = ap (λ (z : Spot). z.seen.entries) f.at
 
-  pub at_entries : spot.entries ≡ entries_of who xs
-  at_entries = ap (λ (z : Spot). z.entries) f.at
+  at_pair : spot.seen.pair ≡ found_at (listed spot.second (pairs_of who xs)) (before spot.second (pairs_of who xs))
+  at_pair = ap (λ (z : Spot). z.seen.pair) f.at
 
-  pub at_listed : spot.listed ≡ listed spot.second (pairs_of who xs)
-  at_listed = ap (λ (z : Spot). z.listed) f.at
+  -- the second is listed at pair k
+  pub at_listed : (k : ℕ) → spot.seen.pair ≡ Ok k → (listed spot.second (pairs_of who xs) ≡ true) × (k ≡ before spot.second (pairs_of who xs))
+  at_listed k e = found_ok _ _ k (sym at_pair ∙ e)
 
-  pub at_before : spot.before ≡ before spot.second (pairs_of who xs)
-  at_before = ap (λ (z : Spot). z.before) f.at
+  -- it is not, and would come before pair k
+  pub at_unlisted : (k : ℕ) → spot.seen.pair ≡ Err k → (listed spot.second (pairs_of who xs) ≡ false) × (k ≡ before spot.second (pairs_of who xs))
+  at_unlisted k e = found_err _ _ k (sym at_pair ∙ e)
 
   -- ---- the deliverer has a place
-  module _ (some : spot.entries ≡ 0 → ⊥) where
+  module _ (some : spot.seen.entries ≡ 0 → ⊥) where
     pub has_one : spot.place < length xs
     has_one =
         let e = at_entries in
@@ -78,11 +84,11 @@ module _ (b : Shares) (who : Deliverer) (ws : List ℕ) (spot : Spot) (f : Found
           let q = pairs_at who spot.second xs (let l = has_one in omega arith) in
           rw (← i) at q
 
-      pub hit : spot.listed ≡ second_at spot.second spot.before here.pairs
-      hit = at_listed ∙ ap (listed spot.second) here_pairs ∙ listed_at 0 spot.second here.pairs here_fine.pairs ∙ rw (at_before, here_pairs)
+      pub listed_here : listed spot.second (pairs_of who xs) ≡ second_at spot.second (before spot.second here.pairs) here.pairs
+      listed_here = ap (listed spot.second) here_pairs ∙ listed_at 0 spot.second here.pairs here_fine.pairs
+
+      pub before_here : before spot.second (pairs_of who xs) ≡ before spot.second here.pairs
+      before_here = ap (before spot.second) here_pairs
 
       pub wide : Wide (mid_of a (e - a) ws)
       wide = rw here_seen (place_wide (class_of who) b.pairs here here_fine cw.pairs)
-
-      pub before_is : spot.before ≡ before spot.second here.pairs
-      before_is = at_before ∙ ap (before spot.second) here_pairs

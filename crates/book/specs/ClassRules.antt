@@ -1,5 +1,5 @@
 -- One class in its part of the words: what a function may know of the words that it is lent, and what it makes of the class.
-use Rattle.std.specs.Prelude.{ℕ, suc, ◌+◌, ◌*◌, ◌≤◌, ◌≡◌, Bool, true, cond, List, [], ◌∷◌, length, get_or, take, drop}
+use Rattle.std.specs.Prelude.{ℕ, suc, ◌+◌, ◌*◌, ◌≤◌, ◌≡◌, Bool, true, cond, List, [], ◌∷◌, length, get_or, take, drop, Option, Ok, position}
 use Rattle.model.specs.declared.Class.{Class}
 use Rattle.model.specs.declared.Deliverer.{Deliverer}
 use Rattle.model.specs.declared.Shares.{Shares}
@@ -13,6 +13,7 @@ use Rattle.model.specs.Book.{Place, Held, entries_of, pairs_of, listed, place_fr
 use Rattle.model.specs.BookWords.{class_form, place_form, most_entries}
 use Rattle.book.specs.declared.Spot.{Spot}
 use Rattle.pairs.specs.Pairs.{before}
+use Rattle.book.specs.PlaceRules.{found_at}
 
 -- the words of a class, with the bounds that indices and sums need
 pub record ClassIs (b : Shares) (c : Class) (ws : List ℕ) : Type 0 where
@@ -36,7 +37,11 @@ ClassReads b c out ws r = Reads (class_form b c).enc (class_form b c).Ok out ws 
 abbrev pub ClassTurns : {R : Type 0} → Shares → Class → (Held → Held) → (Held → R) → List ℕ → List ℕ → R → Type 0
 ClassTurns b c f out ws last r = Turns (class_form b c).enc (class_form b c).Ok f out ws last r
 
--- the place of a deliverer, or the number of places where it has none
+-- the place of a deliverer, where it has one
+abbrev pub place_of : Deliverer → List Place → Option ℕ
+place_of who ps = position (λ p. same_deliverer who p.who) ps
+
+-- where a draw is entered: at the deliverer's place, or behind the others where it has none
 unfoldable pub place_index : Deliverer → List Place → ℕ
 place_index who [] = 0
 place_index who (p ∷ ps) = cond (same_deliverer who p.who) 0 (suc (place_index who ps))
@@ -46,17 +51,18 @@ abbrev pub spot_of : Deliverer → ℕ → List Place → Spot
 spot_of who s ps = record {
   second = s;
   place = place_index who ps;
-  entries = entries_of who ps;
-  pairs = length (pairs_of who ps);
-  before = before s (pairs_of who ps);
-  listed = listed s (pairs_of who ps);
+  seen = record {
+    entries = entries_of who ps;
+    pairs = length (pairs_of who ps);
+    pair = found_at (listed s (pairs_of who ps)) (before s (pairs_of who ps));
+  };
 }
 
 -- a deliverer and a second that were looked up in these words
 pub record Found (b : Shares) (who : Deliverer) (ws : List ℕ) (spot : Spot) : Type 0 where
   pub class : ClassIs b (class_of who) ws
   pub at : spot ≡ spot_of who spot.second class.is.value.places
-  pub few : spot.entries ≤ most_entries
+  pub few : spot.seen.entries ≤ most_entries
 
 -- and there is room for the draw
 pub record Roomy (b : Shares) (who : Deliverer) (ws : List ℕ) (spot : Spot) : Type 0 where
@@ -65,10 +71,10 @@ pub record Roomy (b : Shares) (who : Deliverer) (ws : List ℕ) (spot : Spot) : 
   pub pair : pair_free b who spot.second found.class.is.value.places ≡ true
   pub within : class_head + spot.place * place_width b.pairs + place_width b.pairs ≤ length ws
 
--- the second is listed, so its deliverer has a place
-pub record Listed (b : Shares) (who : Deliverer) (ws : List ℕ) (spot : Spot) : Type 0 where
+-- the second is listed at pair k, so its deliverer has a place
+pub record Listed (b : Shares) (who : Deliverer) (ws : List ℕ) (spot : Spot) (k : ℕ) : Type 0 where
   pub found : Found b who ws spot
-  pub yes : spot.listed ≡ true
+  pub yes : spot.seen.pair ≡ Ok k
   pub within : class_head + spot.place * place_width b.pairs + place_width b.pairs ≤ length ws
   pub before_end : class_head + spot.place * place_width b.pairs + place_width b.pairs ≤ class_head + get_or ws 1 0 * place_width b.pairs
 

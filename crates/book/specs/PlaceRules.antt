@@ -1,5 +1,5 @@
 -- One place: what its words say of a second, and which places a function on a place's words may be given.
-use Rattle.std.specs.Prelude.{ℕ, ◌-◌, ◌≤◌, ◌<◌, ◌≡◌, true, List, ◌∷◌, ◌++◌, length, get_or, drop}
+use Rattle.std.specs.Prelude.{ℕ, ◌-◌, ◌≤◌, ◌<◌, ◌≡◌, Bool, true, cond, Result, Ok, Err, List, ◌∷◌, ◌++◌, length, get_or, drop}
 use Rattle.model.specs.declared.Deliverer.{Deliverer}
 use Rattle.model.specs.Widths.{place_head, place_width}
 use Rattle.model.specs.Class.{kind_of}
@@ -13,12 +13,15 @@ use Rattle.pairs.specs.Pairs.{before, second_at, raise_at, lower_at, count_at, i
 abbrev pub pairs_in : List ℕ → List Pair
 pairs_in ws = read_pairs (get_or ws 3 0) (drop place_head ws)
 
+-- the pair of a second: Ok of its index where it is listed, or Err of where it would come
+abbrev pub found_at : Bool → ℕ → Result ℕ ℕ
+found_at listed k = cond listed (Ok k) (Err k)
+
 abbrev pub seen_in : ℕ → List ℕ → Seen
 seen_in s ws = record {
   entries = get_or ws 2 0;
   pairs = get_or ws 3 0;
-  before = before s (pairs_in ws);
-  listed = second_at s (before s (pairs_in ws)) (pairs_in ws);
+  pair = found_at (second_at s (before s (pairs_in ws)) (pairs_in ws)) (before s (pairs_in ws));
 }
 
 -- a place's words, wide enough for its pairs, with a sum that is small

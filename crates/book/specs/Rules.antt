@@ -8,13 +8,9 @@ use Rattle.model.specs.declared.Limits.{Limits}
 use Rattle.model.specs.Class.{class_of}
 use Rattle.model.specs.Book.{together, below_share, fair}
 
--- n for a deliverer that holds nothing, else 0
-abbrev pub if_none : ℕ → ℕ → ℕ
-if_none held n = cond (eqb held 0) n 0
-
--- n for a deliverer that holds one entry, else 0
-abbrev pub if_one : ℕ → ℕ → ℕ
-if_one held n = cond (eqb held 1) n 0
+-- n where something holds, else 0
+abbrev pub only_if : Bool → ℕ → ℕ
+only_if holds n = cond holds n 0
 
 -- is a place free, and a pair?
 unfoldable pub room_by : ℕ → ℕ → ℕ → Bool → ℕ → ℕ → Draw

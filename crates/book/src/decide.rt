@@ -2,44 +2,32 @@
 ghost use Rattle.std.specs.Prelude.{◌≡◌, ◌≤◌};
 ghost use Rattle.model.specs.Class.{class_of};
 ghost use Rattle.model.specs.Book.{place_units, together, below_share, fair, granted};
-ghost use Rattle.book.specs.Rules.{if_none, if_one, room_by, decided};
+ghost use Rattle.book.specs.Rules.{only_if, room_by, decided};
 
 use model::{Class, Deliverer, Draw, Limits, Shares};
 use numbers::codes;
 
-// n for a deliverer that holds nothing, else 0.
-pub fn if_none(held: u64, n: u64) -> u64
-    ensures { result ≡ if_none held n }
+// n where something holds, else 0.
+pub fn only_if(holds: bool, n: u64) -> u64
+    ensures { result ≡ only_if holds n }
 {
-    if held == 0 {
-        return n;
-    }
-    0
-}
-
-// n for a deliverer that holds one entry, else 0.
-pub fn if_one(held: u64, n: u64) -> u64
-    ensures { result ≡ if_one held n }
-{
-    if held == 1 {
-        return n;
-    }
-    0
+    if holds { n } else { 0 }
 }
 
 // The units that a deliverer's place costs.
+#[tactic(auto, unfolding(model::specs::Book::place_units))]
 pub fn place_units(shares: Shares, who: Deliverer) -> u64
     ensures { result ≡ place_units shares who }
 {
     match who {
         Deliverer::Feeder(_) => shares.feeder,
-        Deliverer::Peer(_) => shares.peer,
+        Deliverer::Peer(_) | Deliverer::Restored(_) => shares.peer,
         Deliverer::Relay => 0,
-        Deliverer::Restored(_) => shares.peer,
     }
 }
 
 // The limit of a class.
+#[tactic(auto, unfolding(model::specs::Book::together))]
 fn class_limit(limits: Limits, class: Class) -> u64
     ensures { result ≡ together limits class }
 {
@@ -51,6 +39,7 @@ fn class_limit(limits: Limits, class: Class) -> u64
 }
 
 // Whether a deliverer that holds n entries is below its own share.
+#[tactic(auto, unfolding(model::specs::Book::below_share))]
 fn below_share(limits: Limits, who: Deliverer, n: u64) -> bool
     ensures { result ≡ below_share limits who n }
 {
@@ -63,31 +52,29 @@ fn below_share(limits: Limits, who: Deliverer, n: u64) -> bool
 }
 
 // Whether a deliverer may pass the class limit up to its equal part.
+#[tactic(auto, unfolding(model::specs::Book::fair))]
 fn is_fair(who: Deliverer) -> bool
     ensures { result ≡ fair who }
 {
-    match who {
-        Deliverer::Feeder(_) => true,
-        Deliverer::Peer(_) => true,
-        Deliverer::Relay => false,
-        Deliverer::Restored(_) => false,
-    }
+    matches!(who, Deliverer::Feeder(_) | Deliverer::Peer(_))
 }
 
-// Is a place free, and a pair?
+// Is a place free, and a pair? The answer is the model's `Draw`, whose rules name it, and no Result beside it.
+#[tactic(auto, unfolding(crate::specs::Rules::room_by))]
 pub fn room(held: u64, holders: u64, places: u64, listed: bool, used: u64, pairs: u64) -> Draw
     ensures { result ≡ room_by held holders places listed used pairs }
 {
-    if !((held != 0) | (holders < places)) {
-        return Draw::Places;
+    if held == 0 && places <= holders {
+        Draw::Places
+    } else if !listed && pairs <= used {
+        Draw::Pairs
+    } else {
+        Draw::Granted
     }
-    if !(listed | (used < pairs)) {
-        return Draw::Pairs;
-    }
-    Draw::Granted
 }
 
 // The draw's rules in their order. `own`, `holders` and `units` are counted with the draw.
+#[tactic(auto, unfolding(crate::specs::Rules::decided))]
 pub fn judge(
     limits: Limits,
     closed: bool,
@@ -123,18 +110,9 @@ pub fn judge(
     room
 }
 
-// Whether a draw was granted.
+// Whether a draw was granted. No derived `==`: the contract is the model's rule, and the crates above cite it.
 pub fn is_granted(d: Draw) -> bool
     ensures { result ≡ granted d }
 {
-    match d {
-        Draw::Granted => true,
-        Draw::Closed => false,
-        Draw::OwnShare => false,
-        Draw::ClassLimit => false,
-        Draw::EqualPart => false,
-        Draw::TwiceLimit => false,
-        Draw::Places => false,
-        Draw::Pairs => false,
-    }
+    matches!(d, Draw::Granted)
 }

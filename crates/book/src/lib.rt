@@ -15,40 +15,36 @@ ghost use Rattle.model.specs.Settings.{limits_fit};
 ghost use Rattle.model.specs.Class.{class_of};
 ghost use Rattle.model.specs.Book.{draw_test, enter, give_back, entries_of};
 ghost use Rattle.book.specs.Sums.{totals_in, totals_of};
-ghost use Rattle.book.specs.ClassRules.{ClassIs, ClassReads, ClassTurns, place_index, spot_of, Found, Roomy, Listed, BodyTurns, entered, drawn_class, returned};
+ghost use Rattle.book.specs.ClassRules.{ClassIs, ClassReads, ClassTurns, place_of, spot_of, Found, Roomy, Listed, BodyTurns, entered, drawn_class, returned};
 
 use model::{Class, Deliverer, Draw, Limits, Second, Shares};
 use numbers::{layout, starts};
+use place::Seen;
 use runs::moves;
+use totals::Totals;
 
-// What a class holds of one deliverer and one second: the deliverer's place (the first unused one where it has none), its entries
-// and pairs, how many of the pairs are earlier than the second, and whether the second is listed.
+// What a class holds of one deliverer and one second: the deliverer's place (the first unused one where it has none), and what
+// that place says of the second.
 #[derive(Clone, Copy)]
 pub struct Spot {
     pub second: u64,
     pub place: usize,
-    pub entries: u64,
-    pub pairs: u64,
-    pub before: usize,
-    pub listed: bool,
+    pub seen: Seen,
 }
 
-// The place of a deliverer, or the number of places in use where it has none.
-pub fn find_place(part: &[u64], shares: Shares, who: Deliverer) -> usize
+// The place of a deliverer, where it has one. A chain of chunks, of which the first so many are taken, would be no shorter: it needs
+// the holders, a place's width and its two words as well.
+pub fn find_place(part: &[u64], shares: Shares, who: Deliverer) -> Option<usize>
     requires { ClassIs shares (class_of who) part.now }
-    ensures { ClassReads shares (class_of who) (λ h. place_index who h.places) part.now result }
+    ensures { ClassReads shares (class_of who) (λ h. place_of who h.places) part.now result }
 {
-    let holders = part[layout::CLASS_HOLDERS] as usize;
-    let mut i = 0;
-    while i < holders {
+    for i in 0..part[layout::CLASS_HOLDERS] as usize {
         let a = starts::place_start(shares, i);
-        let b = a + layout::PLACE_NUMBER;
-        if place::names(who, part[a], part[b]) {
-            return i;
+        if place::names(who, part[a], part[a + layout::PLACE_NUMBER]) {
+            return Some(i);
         }
-        i += 1;
     }
-    i
+    None
 }
 
 // Looks a deliverer and a second up: one walk over the class's places, and one over the pairs of the deliverer's place.
@@ -56,28 +52,19 @@ pub fn find(part: &[u64], shares: Shares, who: Deliverer, second: Second) -> Spo
     requires { ClassIs shares (class_of who) part.now }
     ensures { ClassReads shares (class_of who) (λ h. spot_of who second.0 h.places) part.now result }
 {
-    let at = find_place(part, shares, who);
-    let holders = part[layout::CLASS_HOLDERS] as usize;
-    if holders <= at {
+    let Some(at) = find_place(part, shares, who) else {
         return Spot {
             second: second.0,
-            place: at,
-            entries: 0,
-            pairs: 0,
-            before: 0,
-            listed: false,
+            place: part[layout::CLASS_HOLDERS] as usize,
+            seen: place::NOTHING,
         };
-    }
-    let a = starts::place_start(shares, at);
-    let e = a + starts::place_width(shares);
-    let seen = place::look(&part[a..e], second.0);
+    };
+    let start = starts::place_start(shares, at);
+    let end = start + starts::place_width(shares);
     Spot {
         second: second.0,
         place: at,
-        entries: seen.entries,
-        pairs: seen.pairs,
-        before: seen.before,
-        listed: seen.listed,
+        seen: place::look(&part[start..end], second.0),
     }
 }
 
@@ -93,24 +80,26 @@ pub fn draw(
     requires { Found shares who part.now spot × (limits_fit limits ≡ true) }
     ensures { ClassReads shares (class_of who) (λ h. draw_test shares limits closed who spot.second h.places) part.now result }
 {
+    let held = spot.seen.entries;
+    let holders = part[layout::CLASS_HOLDERS];
     let place = decide::place_units(shares, who);
-    let first = decide::if_none(spot.entries, 1);
-    let opened = decide::if_none(spot.entries, place);
+    let first = decide::only_if(held == 0, 1);
+    let opened = decide::only_if(held == 0, place);
     let room = decide::room(
-        spot.entries,
-        part[layout::CLASS_HOLDERS],
+        held,
+        holders,
         shares.places,
-        spot.listed,
-        spot.pairs,
+        spot.seen.pair.is_ok(),
+        spot.seen.pairs,
         shares.pairs,
     );
     decide::judge(
         limits,
         closed,
         who,
-        spot.entries,
-        spot.entries + 1 + place,
-        part[layout::CLASS_HOLDERS] + first,
+        held,
+        held + 1 + place,
+        holders + first,
         part[layout::CLASS_UNITS] + 1 + opened,
         room,
     )
@@ -121,17 +110,17 @@ fn enter_place(part: &mut [u64], shares: Shares, who: Deliverer, spot: Spot)
     requires { Roomy shares who part.old spot }
     ensures { BodyTurns shares (class_of who) (enter shares who spot.second) part.old part.new }
 {
-    let a = starts::place_start(shares, spot.place);
-    let e = a + starts::place_width(shares);
-    if spot.entries == 0 {
-        place::open(&mut part[a..e], who, spot.second);
+    let start = starts::place_start(shares, spot.place);
+    let end = start + starts::place_width(shares);
+    let place = &mut part[start..end];
+    if spot.seen.entries == 0 {
+        place::open(place, who, spot.second);
         return;
     }
-    if spot.listed {
-        place::raise(&mut part[a..e], spot.before);
-        return;
+    match spot.seen.pair {
+        Ok(k) => place::raise(place, k),
+        Err(k) => place::insert(place, k, spot.second),
     }
-    place::insert(&mut part[a..e], spot.before, spot.second);
 }
 
 // Enters a draw at its second, in the deliverer's place or in a new one after the others.
@@ -139,13 +128,13 @@ pub fn enter(part: &mut [u64], shares: Shares, who: Deliverer, spot: Spot)
     requires { Roomy shares who part.old spot }
     ensures { ClassTurns shares (class_of who) (entered shares who spot.second) (λ h. tt {0}) part.old part.new (tt {0}) }
 {
-    let units = decide::place_units(shares, who);
-    let first = decide::if_none(spot.entries, 1);
-    let opened = decide::if_none(spot.entries, units);
-    let sums = totals::read(part);
-    let t = totals::lent_to_take(sums, first, opened);
+    let opens = spot.seen.entries == 0;
+    let first = decide::only_if(opens, 1);
+    let opened = decide::only_if(opens, decide::place_units(shares, who));
+    let mut totals = Totals::read(part);
+    totals.take(first, opened);
     enter_place(part, shares, who, spot);
-    totals::write(part, t);
+    totals.write(part);
 }
 
 // A draw: looked up once, tested, and entered where it is granted.
@@ -162,10 +151,9 @@ pub fn take(
 {
     let spot = find(part, shares, who, second);
     let answer = draw(part, shares, limits, closed, who, spot);
-    if !decide::is_granted(answer) {
-        return answer;
+    if decide::is_granted(answer) {
+        enter(part, shares, who, spot);
     }
-    enter(part, shares, who, spot);
     answer
 }
 
@@ -174,44 +162,39 @@ pub fn held_by(part: &[u64], shares: Shares, who: Deliverer) -> u64
     requires { ClassIs shares (class_of who) part.now }
     ensures { ClassReads shares (class_of who) (λ h. entries_of who h.places) part.now result }
 {
-    let at = find_place(part, shares, who);
-    let holders = part[layout::CLASS_HOLDERS] as usize;
-    if holders <= at {
-        return 0;
+    match find_place(part, shares, who) {
+        Some(at) => part[starts::place_start(shares, at) + layout::PLACE_ENTRIES],
+        None => 0,
     }
-    let a = starts::place_start(shares, at) + layout::PLACE_ENTRIES;
-    part[a]
 }
 
 // The totals of a class: entries, holders, units and `expired`.
-pub fn held_of(part: &[u64]) -> totals::Totals
+pub fn held_of(part: &[u64]) -> Totals
     requires { class_head ≤ length part.now }
     ensures value { result ≡ totals_in part.now }
     ensures class_reads { (b : Shares) (c : Class) → ClassReads b c (totals_of b) part.now result }
 {
-    totals::read(part)
+    Totals::read(part)
 }
 
-// A return in the words of the places: the deliverer's last entry takes its place along, and later places close up.
-fn return_place(part: &mut [u64], shares: Shares, who: Deliverer, spot: Spot)
-    requires { Listed shares who part.old spot }
+// A return of pair k in the words of the places: the deliverer's last entry takes its place along, and later places close up.
+fn return_place(part: &mut [u64], shares: Shares, who: Deliverer, spot: Spot, k: usize)
+    requires { Listed shares who part.old spot k }
     ensures { BodyTurns shares (class_of who) (give_back who spot.second) part.old part.new }
 {
-    let holders = part[layout::CLASS_HOLDERS] as usize;
     let width = starts::place_width(shares);
-    let a = starts::place_start(shares, spot.place);
-    let e = a + width;
-    if spot.entries == 1 {
-        let end = starts::place_start(shares, holders);
-        moves::close_up(&mut part[a..end], width);
+    let start = starts::place_start(shares, spot.place);
+    let end = start + width;
+    if spot.seen.entries == 1 {
+        let used = starts::place_start(shares, part[layout::CLASS_HOLDERS] as usize);
+        moves::close_up(&mut part[start..used], width);
         return;
     }
-    let count = place::count(&part[a..e], spot.before);
-    if count == 1 {
-        place::remove(&mut part[a..e], spot.before);
+    if place::count(&part[start..end], k) == 1 {
+        place::remove(&mut part[start..end], k);
         return;
     }
-    place::lower(&mut part[a..e], spot.before);
+    place::lower(&mut part[start..end], k);
 }
 
 // Gives a draw back: its pair is lowered, a pair at 0 goes, and so does an empty place.
@@ -220,14 +203,14 @@ pub fn untake(part: &mut [u64], shares: Shares, who: Deliverer, second: Second)
     ensures { ClassTurns shares (class_of who) (returned who second.0) (λ h. tt {0}) part.old part.new (tt {0}) }
 {
     let spot = find(part, shares, who, second);
-    if !spot.listed {
+    let Ok(k) = spot.seen.pair else {
         return;
-    }
-    let units = decide::place_units(shares, who);
-    let gone = decide::if_one(spot.entries, 1);
-    let freed = decide::if_one(spot.entries, units);
-    let sums = totals::read(part);
-    let t = totals::lent_to_untake(sums, gone, freed);
-    return_place(part, shares, who, spot);
-    totals::write(part, t);
+    };
+    let closes = spot.seen.entries == 1;
+    let gone = decide::only_if(closes, 1);
+    let freed = decide::only_if(closes, decide::place_units(shares, who));
+    let mut totals = Totals::read(part);
+    totals.untake(gone, freed);
+    return_place(part, shares, who, spot, k);
+    totals.write(part);
 }

@@ -12,19 +12,21 @@ ghost use Rattle.book.specs.PlaceRules.{Wide, pairs_in, seen_in, Has, Single, Fi
 use model::Deliverer;
 use numbers::{codes, layout};
 
-// Whether a place's kind and number are those of a deliverer of its class: Relay and Restored have one place each.
+// Whether a place's kind and number are those of a deliverer of its class: Relay and Restored have one place each. They come as the
+// numbers that lie in the words, which may be of no deliverer at all.
 pub fn names(who: Deliverer, kind: u64, number: u64) -> bool
     ensures { result ≡ names_by who kind number }
 {
     match who {
-        Deliverer::Feeder(id) => (kind == codes::FEEDER) & (number == id),
-        Deliverer::Peer(id) => (kind == codes::PEER) & (number == id),
+        Deliverer::Feeder(id) => kind == codes::FEEDER && number == id,
+        Deliverer::Peer(id) => kind == codes::PEER && number == id,
         Deliverer::Relay => kind == codes::RELAY,
         Deliverer::Restored(_) => kind == codes::RESTORED,
     }
 }
 
 // The kind word of a deliverer.
+#[tactic(auto, unfolding(model::specs::Class::kind_of))]
 fn kind_word(who: Deliverer) -> u64
     ensures { result ≡ kind_of who }
 {
@@ -41,21 +43,26 @@ fn id_word(who: Deliverer) -> u64
     ensures { result ≡ number_word who 0 }
 {
     match who {
-        Deliverer::Feeder(id) => id,
-        Deliverer::Peer(id) => id,
-        Deliverer::Relay => 0,
-        Deliverer::Restored(_) => 0,
+        Deliverer::Feeder(id) | Deliverer::Peer(id) => id,
+        Deliverer::Relay | Deliverer::Restored(_) => 0,
     }
 }
 
-// What a place says of a second: its entries and pairs, how many pairs are earlier, and whether the second is listed.
+// What a place says of a second: its entries and pairs, and the pair of the second, `Ok` of its index where it is listed, or `Err`
+// of where it would come.
 #[derive(Clone, Copy)]
 pub struct Seen {
     pub entries: u64,
     pub pairs: u64,
-    pub before: usize,
-    pub listed: bool,
+    pub pair: Result<usize, usize>,
 }
+
+// What there is to see where a deliverer has no place.
+pub const NOTHING: Seen = Seen {
+    entries: 0,
+    pairs: 0,
+    pair: Err(0),
+};
 
 // Looks a second up: one walk over the pairs.
 pub fn look(place: &[u64], second: u64) -> Seen
@@ -65,12 +72,11 @@ pub fn look(place: &[u64], second: u64) -> Seen
     let n = place[layout::PLACE_PAIRS] as usize;
     let passed = pairs::earlier(&place[layout::PLACE_HEAD..], n, second);
     let k = passed.pairs;
-    let hit = pairs::has_second(&place[layout::PLACE_HEAD..], n, k, second);
+    let listed = pairs::has_second(&place[layout::PLACE_HEAD..], n, k, second);
     Seen {
         entries: place[layout::PLACE_ENTRIES],
         pairs: place[layout::PLACE_PAIRS],
-        before: k,
-        listed: hit,
+        pair: if listed { Ok(k) } else { Err(k) },
     }
 }
 
@@ -91,10 +97,8 @@ pub fn raise(place: &mut [u64], k: usize)
     requires { Wide place.old × (k < get_or place.old 3 0) × (count_at k (pairs_in place.old) ≤ most_entries) × Is encode_place (Has k) place.old }
     ensures { Turns encode_place (Has k) (raised_place k) (λ p. tt {0}) place.old place.new (tt {0}) }
 {
-    let sum = place[layout::PLACE_ENTRIES];
-    let n = place[layout::PLACE_PAIRS] as usize;
-    pairs::raise(&mut place[layout::PLACE_HEAD..], n, k);
-    place[layout::PLACE_ENTRIES] = sum + 1;
+    pairs::raise(&mut place[layout::PLACE_HEAD..], k);
+    place[layout::PLACE_ENTRIES] += 1;
 }
 
 // A pair of one entry comes before pair k.
@@ -102,11 +106,10 @@ pub fn insert(place: &mut [u64], k: usize, second: u64)
     requires { Wide place.old × (k ≤ get_or place.old 3 0) × (place_width (get_or place.old 3 0 + 1) ≤ length place.old) × Is encode_place (Fits k) place.old }
     ensures { Turns encode_place (Fits k) (longer_place k second) (λ p. tt {0}) place.old place.new (tt {0}) }
 {
-    let sum = place[layout::PLACE_ENTRIES];
     let n = place[layout::PLACE_PAIRS] as usize;
     pairs::insert(&mut place[layout::PLACE_HEAD..], n, k, second);
-    place[layout::PLACE_ENTRIES] = sum + 1;
-    place[layout::PLACE_PAIRS] = n as u64 + 1;
+    place[layout::PLACE_ENTRIES] += 1;
+    place[layout::PLACE_PAIRS] += 1;
 }
 
 // The count of pair k.
@@ -114,8 +117,7 @@ pub fn count(place: &[u64], k: usize) -> u64
     requires { Wide place.now × (k < get_or place.now 3 0) }
     ensures { result ≡ count_at k (pairs_in place.now) }
 {
-    let n = place[layout::PLACE_PAIRS] as usize;
-    pairs::count(&place[layout::PLACE_HEAD..], n, k)
+    pairs::count(&place[layout::PLACE_HEAD..], k)
 }
 
 // One entry less at pair k.
@@ -123,10 +125,8 @@ pub fn lower(place: &mut [u64], k: usize)
     requires { Wide place.old × (k < get_or place.old 3 0) × (1 ≤ count_at k (pairs_in place.old)) × (1 ≤ get_or place.old 2 0) × Is encode_place (Has k) place.old }
     ensures { Turns encode_place (Has k) (lowered_place k) (λ p. tt {0}) place.old place.new (tt {0}) }
 {
-    let sum = place[layout::PLACE_ENTRIES];
-    let n = place[layout::PLACE_PAIRS] as usize;
-    pairs::lower(&mut place[layout::PLACE_HEAD..], n, k);
-    place[layout::PLACE_ENTRIES] = sum - 1;
+    pairs::lower(&mut place[layout::PLACE_HEAD..], k);
+    place[layout::PLACE_ENTRIES] -= 1;
 }
 
 // Pair k, of one entry, goes.
@@ -134,14 +134,13 @@ pub fn remove(place: &mut [u64], k: usize)
     requires { Wide place.old × (k < get_or place.old 3 0) × (1 ≤ get_or place.old 2 0) × Is encode_place (Single k) place.old }
     ensures { Turns encode_place (Single k) (shorter_place k) (λ p. tt {0}) place.old place.new (tt {0}) }
 {
-    let sum = place[layout::PLACE_ENTRIES];
     let n = place[layout::PLACE_PAIRS] as usize;
     pairs::remove(&mut place[layout::PLACE_HEAD..], n, k, 1);
-    place[layout::PLACE_ENTRIES] = sum - 1;
-    place[layout::PLACE_PAIRS] = n as u64 - 1;
+    place[layout::PLACE_ENTRIES] -= 1;
+    place[layout::PLACE_PAIRS] -= 1;
 }
 
-// What an expiry leaves of a place, and the entries that went.
+// What an expiry leaves of a place, and the entries that went. No pairs is a count as any other, and no refusal.
 #[derive(Clone, Copy)]
 pub struct Left {
     pub pairs: usize,
@@ -153,16 +152,14 @@ pub fn expire(place: &mut [u64], t: u64) -> Left
     requires { Wide place.old × (total (pairs_in place.old) ≡ get_or place.old 2 0) × Is encode_place Sums place.old }
     ensures { Turns encode_place Sums (later_place t) (left_of t) place.old place.new result }
 {
-    let sum = place[layout::PLACE_ENTRIES];
     let n = place[layout::PLACE_PAIRS] as usize;
     let passed = pairs::earlier(&place[layout::PLACE_HEAD..], n, t);
-    let m = passed.pairs;
-    let gone = passed.entries;
-    pairs::remove(&mut place[layout::PLACE_HEAD..], n, 0, m);
-    place[layout::PLACE_ENTRIES] = sum - gone;
-    place[layout::PLACE_PAIRS] = (n - m) as u64;
+    pairs::remove(&mut place[layout::PLACE_HEAD..], n, 0, passed.pairs);
+    let left = n - passed.pairs;
+    place[layout::PLACE_ENTRIES] -= passed.entries;
+    place[layout::PLACE_PAIRS] = left as u64;
     Left {
-        pairs: n - m,
-        gone: gone,
+        pairs: left,
+        gone: passed.entries,
     }
 }

@@ -196,9 +196,6 @@ module _ (b : Shares) (c : Class) (t : ℕ) (ws : List ℕ) (cl : ClassIs b c ws
       let v = ap (λ (z : ℕ). z * W) z in
       omega arith
 
-  pub cut_fits : (k.places ≤ 64) × (k.places * W ≤ get_or ws 1 0 * W)
-  cut_fits = let g = gap_long in let f = kept_few in let h = all_few in let o = cl.places in let p = done.places in (omega arith, omega arith)
-
   -- the totals are those of all places, of which no more are kept
   pub kept_within : (s : Totals) → s ≡ totals_in ws → (k.entries ≤ s.entries) × (k.places ≤ s.holders) × (k.units ≤ s.units)
   kept_within s e =

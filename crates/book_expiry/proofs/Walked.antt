@@ -1,6 +1,8 @@
 -- One place of an expiry in the class's words: it goes and leaves its words to the gap, or it moves down behind those kept.
 use Prim.Native.Nat.{ℕ, suc, ◌+◌, ◌-◌, ◌*◌, ◌<◌, ◌≤◌}
-use native.Mathlib.Nat.{suc-mul}
+use native.Mathlib.Nat.{zero-add, suc-mul}
+use Rattle.std.specs.List.{copy_within}
+use Rattle.std.proofs.lemmas.List.Edits.{paste_all}
 use native.Mathlib.Numerals.{add-one}
 use native.Mathlib.Omega.{arith}
 use mathlib.Core.Path.{◌≡◌, ap, ap₂, sym, ◌∙◌}
@@ -29,6 +31,10 @@ use Rattle.book.proofs.Finding.{place_wide}
 use Rattle.book_expiry.specs.declared.Kept.{Kept}
 use Rattle.book_expiry.specs.Walks.{with_words, Walk, Standing, Steps}
 use Rattle.book_expiry.proofs.Lists.{later_gone, later_here, between_gone, between_here, fewer_long, kept_ok}
+
+-- words moved down to the first, the last d staying as they were
+moved_down : (xs : List ℕ) (d : ℕ) → copy_within xs d (length xs) 0 ≡ drop d xs ++ drop (length xs - d) xs
+moved_down xs d = paste_all xs 0 (drop d xs) (length xs - d) (sym (length-drop d xs)) ∙ rw zero-add
 
 -- ---- place i in words of which the places before it have been seen
 module _ (b : Shares) (c : Class) (t i : ℕ) (lead : List ℕ) (ps : List Place) (rest : List ℕ) (k : Kept) (ws : List ℕ)
@@ -245,10 +251,10 @@ module _ (b : Shares) (c : Class) (t i : ℕ) (k : Kept) (ws : List ℕ) (a e : 
     place_goes z = record { does = λ lead ps rest totals ok below w. goes b c t i lead ps rest k ws totals ok below w a e ha he ys left x z }
 
     pub place_stays : (left.pairs ≡ 0 → ⊥) → (j : ℕ) → j ≡ class_head + k.places * place_width b.pairs → (zs : List ℕ)
-        → zs ≡ drop (a - j) (mid_of j (e - j) (put_mid a (e - a) ws ys))
-        ++ drop (length (mid_of j (e - j) (put_mid a (e - a) ws ys)) - (a - j)) (mid_of j (e - j) (put_mid a (e - a) ws ys))
+        → zs ≡ copy_within (mid_of j (e - j) (put_mid a (e - a) ws ys)) (a - j) (length (mid_of j (e - j) (put_mid a (e - a) ws ys))) 0
         → (r : Kept) → r ≡ with_words b c (mid_of a (e - a) (put_mid a (e - a) ws ys)) k
         → Steps b c t i k ws (put_mid j (e - j) (put_mid a (e - a) ws ys) zs) r
     place_stays some j hj zs is r hr = record {
-      does = λ lead ps rest totals ok below w. stays b c t i lead ps rest k ws totals ok below w a e ha he ys left x j hj zs is r hr some;
+      does = λ lead ps rest totals ok below w. stays b c t i lead ps rest k ws totals ok below w a e ha he ys left x j hj
+          zs (is ∙ moved_down (mid_of j (e - j) (put_mid a (e - a) ws ys)) (a - j)) r hr some;
     }

@@ -10,10 +10,11 @@ ghost use Rattle.model.specs.BookWords.{most_entries};
 ghost use Rattle.book.specs.ClassRules.{ClassIs, ClassTurns};
 ghost use Rattle.book_expiry.specs.Walks.{with_words, Standing, Steps, Walking, freed_to};
 
-use book::{place, totals};
+use book::place;
+use book::totals::Totals;
 use model::{Class, Second, Shares};
-use numbers::{capped, layout, starts, units};
-use runs::moves;
+use numbers::capped::TOP32;
+use numbers::{layout, starts, units};
 
 // The places kept so far, with their entries and units. What the totals lose is what is not kept.
 #[derive(Clone, Copy)]
@@ -29,11 +30,10 @@ fn with_place(place: &[u64], shares: Shares, class: Class, kept: Kept) -> Kept
     ensures { result ≡ with_words shares class place.now kept }
 {
     let entries = place[layout::PLACE_ENTRIES];
-    let units = units::units_of(shares, class, place[layout::PLACE_KIND]);
     Kept {
         places: kept.places + 1,
         entries: kept.entries + entries,
-        units: kept.units + entries + units,
+        units: kept.units + entries + units::units_of(shares, class, place[layout::PLACE_KIND]),
     }
 }
 
@@ -49,15 +49,15 @@ fn expire_place(
     requires { Standing shares class t i kept part.old }
     ensures { Steps shares class t i kept part.old part.new result }
 {
-    let a = starts::place_start(shares, i);
-    let e = a + starts::place_width(shares);
-    let left = place::expire(&mut part[a..e], t);
+    let start = starts::place_start(shares, i);
+    let end = start + starts::place_width(shares);
+    let left = place::expire(&mut part[start..end], t);
     if left.pairs == 0 {
         return kept;
     }
-    let more = with_place(&part[a..e], shares, class, kept);
-    let j = starts::place_start(shares, kept.places);
-    moves::move_down(&mut part[j..e], a - j);
+    let more = with_place(&part[start..end], shares, class, kept);
+    let free = starts::place_start(shares, kept.places);
+    part[free..end].copy_within(start - free.., 0);
     more
 }
 
@@ -66,16 +66,13 @@ fn expire_places(part: &mut [u64], shares: Shares, class: Class, t: u64) -> Kept
     requires { ClassIs shares class part.old }
     ensures { Walking shares class t part.old (get_or part.old 1 0) result part.new }
 {
-    let holders = part[layout::CLASS_HOLDERS] as usize;
     let mut kept = Kept {
         places: 0,
         entries: 0,
         units: 0,
     };
-    let mut i = 0;
-    while i < holders {
+    for i in 0..part[layout::CLASS_HOLDERS] as usize {
         kept = expire_place(part, shares, class, t, i, kept);
-        i += 1;
     }
     kept
 }
@@ -85,21 +82,16 @@ fn expire_pairs(part: &mut [u64], shares: Shares, class: Class, t: u64)
     requires { ClassIs shares class part.old }
     ensures { ClassTurns shares class (freed_to t) (λ h. tt {0}) part.old part.new (tt {0}) }
 {
-    let sums = totals::read(part);
-    let holders = part[layout::CLASS_HOLDERS] as usize;
+    let mut totals = Totals::read(part);
     let kept = expire_places(part, shares, class, t);
-    let places = kept.places;
-    let a = starts::place_start(shares, places);
-    let e = starts::place_start(shares, holders);
-    runs::clear_words(&mut part[a..e]);
-    let left = totals::lent_to_expire(
-        sums,
-        sums.entries - kept.entries,
-        sums.holders - (places as u64),
-        sums.units - kept.units,
-        t,
-    );
-    totals::write(part, left);
+    let start = starts::place_start(shares, kept.places);
+    let end = starts::place_start(shares, totals.holders as usize);
+    part[start..end].fill(0);
+    let entries = totals.entries - kept.entries;
+    let holders = totals.holders - kept.places as u64;
+    let units = totals.units - kept.units;
+    totals.expire(entries, holders, units, t);
+    totals.write(part);
 }
 
 // Expires a class up to a second. Where the clock stepped back by more than two seconds the class only takes note of it, and
@@ -109,15 +101,11 @@ pub fn expire(part: &mut [u64], shares: Shares, class: Class, t: Second)
     ensures { ClassTurns shares class (expire_class t.0) (λ h. tt {0}) part.old part.new (tt {0}) }
 {
     let through = t.0;
-    let expired = part[layout::CLASS_EXPIRED];
-    if capped::capped_to_32(through + 2) < expired {
-        let sums = totals::read(part);
-        let left = totals::lent_to_expire(sums, 0, 0, 0, through);
-        totals::write(part, left);
-        return;
+    let mut totals = Totals::read(part);
+    if (through + 2).min(TOP32) < totals.expired {
+        totals.expire(0, 0, 0, through);
+        totals.write(part);
+    } else if totals.expired < through {
+        expire_pairs(part, shares, class, through);
     }
-    if through <= expired {
-        return;
-    }
-    expire_pairs(part, shares, class, through);
 }

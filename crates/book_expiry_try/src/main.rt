@@ -17,27 +17,18 @@ use std::io;
 // The words of the class.
 const WORDS: usize = layout::CLASS_HEAD + 3 * (2 * 3 + layout::PLACE_HEAD);
 
-fn print(rt: &impl Print, n: u64, end: u8) -> io::Result<()> {
-    print!(rt; "{n}")?;
-    rt.write_all(&[end])
-}
-
-fn print_test(rt: &impl Print, yes: bool, end: u8) -> io::Result<()> {
-    if yes {
-        return print(rt, 1, end);
-    }
-    print(rt, 0, end)
+fn print_test(rt: &impl Print, yes: bool, end: &str) -> io::Result<()> {
+    let n = u64::from(yes);
+    print!(rt; "{n}{end}")
 }
 
 fn end_line(rt: &impl Print) -> io::Result<()> {
-    rt.write_all(&[b'\n'])
+    println!(rt; "")
 }
 
 fn show(rt: &impl Print, words: &[u64]) -> io::Result<()> {
-    let mut i = 0;
-    while i < words.len() {
-        print(rt, words[i], b' ')?;
-        i += 1;
+    for word in words {
+        print!(rt; "{word} ")?;
     }
     end_line(rt)
 }
@@ -69,7 +60,7 @@ fn altered(rt: &impl Print, words: &mut [u64], at: usize, word: u64) -> io::Resu
 {
     let kept = words[at];
     words[at] = word;
-    print_test(rt, is_class(words), b' ')?;
+    print_test(rt, is_class(words), " ")?;
     words[at] = kept;
     Ok(())
 }
@@ -80,9 +71,9 @@ fn wrapped(rt: &impl Print, words: &mut [u64]) -> io::Result<()>
 {
     let first = words[9];
     let second = words[11];
-    words[9] = 18446744073709551615;
+    words[9] = u64::MAX;
     words[11] = 6;
-    print_test(rt, is_class(words), b' ')?;
+    print_test(rt, is_class(words), " ")?;
     words[9] = first;
     words[11] = second;
     Ok(())
@@ -93,12 +84,12 @@ fn expire(rt: &impl Print, words: &mut [u64], second: u64) -> io::Result<()>
     requires { second ≤ top32 }
 {
     let sound = is_class(words);
-    print_test(rt, sound, b' ')?;
+    print_test(rt, sound, " ")?;
     if !sound {
         return Ok(());
     }
     book_expiry::expire(words, shares(), Class::Feeders, Second(second));
-    print_test(rt, is_class(words), b':')?;
+    print_test(rt, is_class(words), ":")?;
     show(rt, words)
 }
 

@@ -1,6 +1,6 @@
 pub mod Whose
-pub mod PlaceStarts
-pub mod Twice
 pub mod Placed
-pub mod Sums
+pub mod Chunks
+pub mod Twice
+pub mod Adding
 pub mod Classes

@@ -1,63 +1,72 @@
 -- The two loops that tell deliverers apart, a turn at a time.
-use Prim.Native.Nat.{ℕ, ◌+◌, ◌-◌, ◌≤◌, ◌<◌}
-use native.Mathlib.Omega.{arith}
-use mathlib.Core.Path.{◌≡◌}
-use mathlib.Core.Bool.{Bool, true, false, not, ◌&&◌, ◌||◌}
-use mathlib.Core.List.{List, []}
-use lib.ListN.{get_or}
+use Prim.Native.Nat.{ℕ, ◌<◌}
+use mathlib.Core.Path.{◌≡◌, refl, ◌∙◌}
+use mathlib.Core.Bool.{true, false, not, ◌&&◌, ◌||◌}
+use mathlib.Core.List.{List, ◌++◌}
+use lib.ListN.{length, get_or}
 use Rattle.model.specs.declared.Class.{Class}
 use Rattle.model.specs.declared.Deliverer.{Deliverer}
 use Rattle.model.specs.declared.Shares.{Shares}
-use Rattle.runs.specs.Combine.{read_up}
+use Rattle.model.specs.Widths.{place_width}
 use Rattle.model.specs.Class.{same_deliverer}
-use Rattle.model.specs.BookWords.{read_who, has_place, distinct}
-use Rattle.book_sound.specs.PlaceAt.{read_from}
-use Rattle.book_sound.proofs.PlaceStarts.{Read}
+use Rattle.model.specs.BookWords.{read_who, has_place, distinct, used_place}
+use Rattle.book_sound.specs.PlaceAt.{places_in}
+use Rattle.book_sound.proofs.Chunks.{read_next, read_last}
 
--- the loop that looks for x is at place i
-pub record Seeks (b : Shares) (c : Class) (ws : List ℕ) (x : Deliverer) (from i : ℕ) : Type 0 where
-  pub within : i ≤ b.places
-  pub goes : has_place x (read_from b c i ws) ≡ has_place x (read_from b c from ws)
+-- the loop that looks for who is left with the words r
+pub record Seeks (b : Shares) (c : Class) (ws : List ℕ) (who : Deliverer) (size : ℕ) (r : List ℕ) : Type 0 where
+  pub wide : size ≡ place_width b.pairs
+  pub goes : has_place who (places_in b c r) ≡ has_place who (places_in b c ws)
 
--- after the last place nothing is read
-pub read_past : (b : Shares) (c : Class) (ws : List ℕ) (i : ℕ) → b.places ≤ i → read_from b c i ws ≡ []
-unfolding read_up
-read_past b c ws i h = let e : b.places - i ≡ 0 = omega arith in rw e
+pub seeks_start : (b : Shares) (c : Class) (ws : List ℕ) (who : Deliverer) {size : ℕ} → size ≡ place_width b.pairs → Seeks b c ws who size ws
+seeks_start b c ws who e = record { wide = e; goes = refl }
 
-module _ (b : Shares) (c : Class) (ws : List ℕ) (x : Deliverer) (from i : ℕ) (l : Seeks b c ws x from i) where
-  pub seeks_none : read_from b c i ws ≡ [] → false ≡ has_place x (read_from b c from ws)
+module _ {b : Shares} {c : Class} {ws : List ℕ} {who : Deliverer} {size : ℕ} {r : List ℕ} (l : Seeks b c ws who size r) where
+  pub seeks_end : length r < size → false ≡ has_place who (places_in b c ws)
   unfolding has_place
-  seeks_none e = rw e at l.goes
+  seeks_end h = rw (read_last b c r h l.wide) at l.goes
 
-  module _ (a : ℕ) (r : Read b c ws i a) (same : Bool) (hs : same ≡ same_deliverer x (read_who c (get_or ws a 0) (get_or ws (a + 1) 0))) where
-    seen : (same || has_place x (read_from b c (i + 1) ws)) ≡ has_place x (read_from b c from ws)
+  module _ (x q : List ℕ) (split : (r ≡ x ++ q) × (length x ≡ size)) where
+    pub seeks_none : false ≡ used_place x → false ≡ has_place who (places_in b c ws)
     unfolding has_place
-    seen = rw (hs, ← r.who) (rw r.first at l.goes)
+    seeks_none u = rw (read_next b c x q split l.wide, ← u) at l.goes
 
-    pub seeks_hit : same ≡ true → true ≡ has_place x (read_from b c from ws)
-    seeks_hit t = rw t at seen
+    module _ (u : true ≡ used_place x) where
+      seen : (same_deliverer who (read_who c (get_or x 0 0) (get_or x 1 0)) || has_place who (places_in b c q)) ≡ has_place who (places_in b c ws)
+      unfolding has_place
+      seen = rw (read_next b c x q split l.wide, ← u) at l.goes
 
-    pub seeks_on : same ≡ false → i < b.places → Seeks b c ws x from (i + 1)
-    seeks_on t h = record { within = omega arith; goes = rw t at seen }
+      pub seeks_hit : true ≡ same_deliverer who (read_who c (get_or x 0 0) (get_or x 1 0)) → true ≡ has_place who (places_in b c ws)
+      seeks_hit t = rw (← t) at seen
 
--- the loop over places that tests each against the later ones is at place i
-pub record Apart (b : Shares) (c : Class) (ws : List ℕ) (i : ℕ) : Type 0 where
-  pub within : i ≤ b.places
-  pub goes : distinct (read_from b c i ws) ≡ distinct (read_from b c 0 ws)
+      pub seeks_on : false ≡ same_deliverer who (read_who c (get_or x 0 0) (get_or x 1 0)) → {s : ℕ} → s ≡ size → Seeks b c ws who s q
+      seeks_on t e = record { wide = e ∙ l.wide; goes = rw (← t) at seen }
 
-module _ (b : Shares) (c : Class) (ws : List ℕ) (i : ℕ) (l : Apart b c ws i) where
-  pub apart_none : read_from b c i ws ≡ [] → true ≡ distinct (read_from b c 0 ws)
+-- the loop that tests each place against the later ones is left with the words r
+pub record Apart (b : Shares) (c : Class) (ws : List ℕ) (size : ℕ) (r : List ℕ) : Type 0 where
+  pub wide : size ≡ place_width b.pairs
+  pub goes : distinct (places_in b c r) ≡ distinct (places_in b c ws)
+
+pub apart_start : (b : Shares) (c : Class) (ws : List ℕ) {size : ℕ} → size ≡ place_width b.pairs → Apart b c ws size ws
+apart_start b c ws e = record { wide = e; goes = refl }
+
+module _ {b : Shares} {c : Class} {ws : List ℕ} {size : ℕ} {r : List ℕ} (l : Apart b c ws size r) where
+  pub apart_end : length r < size → true ≡ distinct (places_in b c ws)
   unfolding distinct
-  apart_none e = rw e at l.goes
+  apart_end h = rw (read_last b c r h l.wide) at l.goes
 
-  module _ (a : ℕ) (r : Read b c ws i a) (twice : Bool)
-      (ht : twice ≡ has_place (read_who c (get_or ws a 0) (get_or ws (a + 1) 0)) (read_from b c (i + 1) ws)) where
-    met : (not twice && distinct (read_from b c (i + 1) ws)) ≡ distinct (read_from b c 0 ws)
+  module _ (x q : List ℕ) (split : (r ≡ x ++ q) × (length x ≡ size)) where
+    pub apart_none : false ≡ used_place x → true ≡ distinct (places_in b c ws)
     unfolding distinct
-    met = rw (ht, ← r.who) (rw r.first at l.goes)
+    apart_none u = rw (read_next b c x q split l.wide, ← u) at l.goes
 
-    pub apart_met : twice ≡ true → false ≡ distinct (read_from b c 0 ws)
-    apart_met t = rw t at met
+    module _ (u : true ≡ used_place x) (later : List ℕ) (is : later ≡ q) where
+      met : (not (has_place (read_who c (get_or x 0 0) (get_or x 1 0)) (places_in b c later)) && distinct (places_in b c q)) ≡ distinct (places_in b c ws)
+      unfolding distinct
+      met = rw is (rw (read_next b c x q split l.wide, ← u) at l.goes)
 
-    pub apart_on : twice ≡ false → i < b.places → Apart b c ws (i + 1)
-    apart_on t h = record { within = omega arith; goes = rw t at met }
+      pub apart_met : true ≡ has_place (read_who c (get_or x 0 0) (get_or x 1 0)) (places_in b c later) → false ≡ distinct (places_in b c ws)
+      apart_met t = rw (← t) at met
+
+      pub apart_on : false ≡ has_place (read_who c (get_or x 0 0) (get_or x 1 0)) (places_in b c later) → {s : ℕ} → s ≡ size → Apart b c ws s q
+      apart_on t e = record { wide = e ∙ l.wide; goes = rw (← t) at met }

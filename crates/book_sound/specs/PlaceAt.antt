@@ -1,12 +1,12 @@
--- The places of a class in their words, and what is read from place i on.
-use Rattle.std.specs.Prelude.{ℕ, ◌+◌, ◌-◌, ◌*◌, ◌≤◌, ◌≡◌, Bool, ◌&&◌, List, eqb, leb, length, drop}
+-- The places of a class in their words, and what they add up to.
+use Rattle.std.specs.Prelude.{ℕ, ◌+◌, ◌*◌, ◌/◌, ◌≤◌, ◌≡◌, Bool, ◌&&◌, List, eqb, leb, length}
 use Rattle.model.specs.declared.Class.{Class}
 use Rattle.model.specs.declared.Shares.{Shares}
 use Rattle.runs.specs.Combine.{read_up, test_up}
 use Rattle.model.specs.Widths.{place_width}
 use Rattle.model.specs.Book.{Place, entries_in, units}
 use Rattle.model.specs.BookWords.{most_entries, place_form, used_place}
-use Rattle.model.specs.Most.{places_most}
+use Rattle.book_sound.specs.declared.Sums.{Sums}
 
 -- the bounds of settings that fit
 pub record Few (b : Shares) : Type 0 where
@@ -20,24 +20,22 @@ pub record Within (b : Shares) (ws : List ℕ) : Type 0 where
   pub few : Few b
   pub long : length ws ≡ b.places * place_width b.pairs
 
--- place i starts at word a
-pub record PlaceAt (b : Shares) (i a : ℕ) : Type 0 where
-  pub is : a ≡ i * place_width b.pairs
-  pub whole : a + place_width b.pairs ≤ b.places * place_width b.pairs
-  pub small : a ≤ places_most
-
--- the used places from place i on
-abbrev pub read_from : Shares → Class → ℕ → List ℕ → List Place
-read_from b c i ws = read_up (place_form c b.pairs) used_place (b.places - i) (drop (i * place_width b.pairs) ws)
+-- the used places of such words
+abbrev pub places_in : Shares → Class → List ℕ → List Place
+places_in b c ws = read_up (place_form c b.pairs) used_place (length ws / place_width b.pairs) ws
 
 -- they are sound, and what follows them is 0
-abbrev pub test_from : Shares → Class → ℕ → List ℕ → Bool
-test_from b c i ws = test_up (place_form c b.pairs) used_place (b.places - i) (drop (i * place_width b.pairs) ws)
+abbrev pub test_in : Shares → Class → List ℕ → Bool
+test_in b c ws = test_up (place_form c b.pairs) used_place (length ws / place_width b.pairs) ws
 
--- the totals that the words say are those that were added up
-abbrev pub agreeing : ℕ → ℕ → ℕ → ℕ → ℕ → ℕ → Bool
-agreeing E H U sum used cost = leb sum most_entries && (eqb E sum && (eqb H used && eqb U cost))
+-- ---- sums
+abbrev pub no_sums : Sums
+no_sums = record { entries = 0; holders = 0; units = 0 }
 
--- the same with places ps still to come, after `used` ones that have `sum` entries and `cost` units
-unfoldable pub totals_rule : Shares → ℕ → ℕ → ℕ → ℕ → ℕ → ℕ → List Place → Bool
-totals_rule b E H U sum used cost ps = agreeing E H U (sum + entries_in ps) (used + length ps) (cost + units b ps)
+-- the totals are those that were added up
+abbrev pub agreeing : Sums → Sums → Bool
+agreeing t s = leb s.entries most_entries && (eqb t.entries s.entries && (eqb t.holders s.holders && eqb t.units s.units))
+
+-- the same with places ps still to come after some with these sums
+unfoldable pub totals_rule : Shares → Sums → Sums → List Place → Bool
+totals_rule b t s ps = agreeing t (record { entries = s.entries + entries_in ps; holders = s.holders + length ps; units = s.units + units b ps })

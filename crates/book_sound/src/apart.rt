@@ -1,56 +1,44 @@
 // Deliverers of a class are distinct.
-ghost use Rattle.std.specs.Prelude.{◌≡◌, ◌≤◌};
+ghost use Rattle.std.specs.Prelude.{◌≡◌, ◌≤◌, length, get_or};
+ghost use Rattle.model.specs.Widths.{place_head};
 ghost use Rattle.model.specs.BookWords.{read_who, has_place, distinct as distinct_rule};
-ghost use Rattle.book_sound.specs.PlaceAt.{Within, read_from};
+ghost use Rattle.book_sound.specs.PlaceAt.{Few, places_in};
 
-use crate::{place, placing};
+use crate::place;
 use model::{Class, Shares};
-use numbers::{layout, starts};
+use numbers::starts;
 
-// Whether a used place from place `from` on has the deliverer of that kind and number.
-fn has_from(body: &[u64], shares: Shares, class: Class, from: usize, kind: u64, number: u64) -> bool
-    requires { Within shares body.now × (from ≤ shares.places) }
-    ensures { result ≡ has_place (read_who class kind number) (read_from shares class from body.now) }
+// Whether one of the used places has the deliverer of that place.
+fn has_who(places: &[u64], shares: Shares, class: Class, place: &[u64]) -> bool
+    requires { Few shares × (place_head ≤ length place.now) }
+    ensures { result ≡ has_place (read_who class (get_or place.now 0 0) (get_or place.now 1 0)) (places_in shares class places.now) }
 {
-    let width = starts::place_width(shares);
-    let mut i = from;
-    while i < shares.places as usize {
-        let a = placing::start_of(shares, i);
-        let e = a + width;
-        let used = place::in_use(&body[a..e]);
-        if !used {
+    for other in places.chunks_exact(starts::place_width(shares)) {
+        if !place::in_use(other) {
             return false;
         }
-        let b = a + layout::PLACE_NUMBER;
-        let same = place::same_who(class, kind, number, body[a], body[b]);
-        if same {
+        if place::same_who(class, place, other) {
             return true;
         }
-        i += 1;
     }
     false
 }
 
 // Each used place has a deliverer that no later one has.
 pub fn distinct(body: &[u64], shares: Shares, class: Class) -> bool
-    requires { Within shares body.now }
-    ensures { result ≡ distinct_rule (read_from shares class 0 body.now) }
+    requires { Few shares }
+    ensures { result ≡ distinct_rule (places_in shares class body.now) }
 {
     let width = starts::place_width(shares);
-    let mut i = 0;
-    while i < shares.places as usize {
-        let a = placing::start_of(shares, i);
-        let e = a + width;
-        let used = place::in_use(&body[a..e]);
-        if !used {
+    let mut later = body;
+    for place in body.chunks_exact(width) {
+        later = &later[width..];
+        if !place::in_use(place) {
             return true;
         }
-        let b = a + layout::PLACE_NUMBER;
-        let twice = has_from(body, shares, class, i + 1, body[a], body[b]);
-        if twice {
+        if has_who(later, shares, class, place) {
             return false;
         }
-        i += 1;
     }
     true
 }

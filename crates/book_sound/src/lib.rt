@@ -14,25 +14,28 @@ use numbers::layout;
 mod apart;
 mod place;
 mod places;
-mod placing;
+
+// What the places of a class add up to, and what its totals say of it.
+#[derive(PartialEq, Eq, Clone, Copy)]
+struct Sums {
+    entries: u64,
+    holders: u64,
+    units: u64,
+}
 
 // The words of a class are sound: used places first and each sound, zeros after them, deliverers distinct, `expired` 32-bit, and
 // the three totals are the sums.
+#[tactic(auto, using(crate::proofs::Classes::few_of, crate::proofs::Classes::body_within, crate::proofs::Classes::class_unsummed, crate::proofs::Classes::class_twice, crate::proofs::Classes::class_summed))]
 pub fn class_sound(part: &[u64], shares: Shares, class: Class) -> bool
     requires { (shares_fit shares ≡ true) × (length part.now ≡ class_width shares) }
     ensures { result ≡ (class_form shares class).test part.now }
 {
-    let entries = part[layout::CLASS_ENTRIES];
-    let holders = part[layout::CLASS_HOLDERS];
-    let units = part[layout::CLASS_UNITS];
-    let sound = places::places_sound(
-        &part[layout::CLASS_HEAD..],
-        shares,
-        class,
-        entries,
-        holders,
-        units,
-    );
-    let distinct = apart::distinct(&part[layout::CLASS_HEAD..], shares, class);
-    sound & (distinct & (part[layout::CLASS_EXPIRED] <= TOP32))
+    let totals = Sums {
+        entries: part[layout::CLASS_ENTRIES],
+        holders: part[layout::CLASS_HOLDERS],
+        units: part[layout::CLASS_UNITS],
+    };
+    let body = &part[layout::CLASS_HEAD..];
+    places::places_sound(body, shares, class, totals)
+        && (apart::distinct(body, shares, class) && part[layout::CLASS_EXPIRED] <= TOP32)
 }

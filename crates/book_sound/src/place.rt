@@ -1,5 +1,5 @@
 // One place: a deliverer, its entries and its pairs.
-ghost use Rattle.std.specs.Prelude.{◌≡◌, ◌≤◌, length};
+ghost use Rattle.std.specs.Prelude.{◌≡◌, ◌≤◌, length, get_or};
 ghost use Rattle.model.specs.Widths.{place_head, place_width};
 ghost use Rattle.model.specs.Class.{same_deliverer};
 ghost use Rattle.model.specs.BookWords.{kind_sound as kind_rule, place_sound as place_rule, read_who, used_place};
@@ -8,30 +8,32 @@ use model::Class;
 use numbers::bounds::MOST_ENTRIES;
 use numbers::{codes, layout};
 
-// A deliverer of that class, or a restored one, by its kind.
+// A deliverer of that class, or a restored one, by its kind. It is the number in the words: until it has passed it may be no kind.
 fn kind_sound(class: Class, kind: u64) -> bool
     ensures { result ≡ kind_rule class kind }
 {
-    let own = codes::class_number(class);
-    (kind == codes::RESTORED) | (kind == own)
+    kind == codes::RESTORED || kind == codes::class_number(class)
 }
 
 // A used place is sound: the cells of its pairs lie within it before they are read.
+#[tactic(auto, using(crate::proofs::Placed::kind_bad, crate::proofs::Placed::pairs_none, crate::proofs::Placed::pairs_many, crate::proofs::Placed::place_room, crate::proofs::Placed::place_good, crate::proofs::Placed::place_bad))]
 pub fn place_sound(place: &[u64], pairs: u64, class: Class) -> bool
     requires { (pairs ≤ 512) × (length place.now ≡ place_width pairs) }
     ensures { result ≡ place_rule class pairs place.now }
 {
-    let kind = kind_sound(class, place[layout::PLACE_KIND]);
-    let entries = place[layout::PLACE_ENTRIES];
-    let n = place[layout::PLACE_PAIRS];
-    if !(kind & ((1 <= n) & (n <= pairs))) {
+    if !kind_sound(class, place[layout::PLACE_KIND]) {
         return false;
     }
-    let sound = pairs::are_sound(&place[layout::PLACE_HEAD..], n as usize, entries);
-    sound & (entries <= MOST_ENTRIES)
+    let n = place[layout::PLACE_PAIRS];
+    if n < 1 || pairs < n {
+        return false;
+    }
+    let entries = place[layout::PLACE_ENTRIES];
+    pairs::are_sound(&place[layout::PLACE_HEAD..], n as usize, entries) && entries <= MOST_ENTRIES
 }
 
 // A place is used if it has pairs.
+#[tactic(auto, unfolding(model::specs::BookWords::used_place))]
 pub fn in_use(place: &[u64]) -> bool
     requires { place_head ≤ length place.now }
     ensures { result ≡ used_place place.now }
@@ -39,19 +41,19 @@ pub fn in_use(place: &[u64]) -> bool
     place[layout::PLACE_PAIRS] != 0
 }
 
-// Whether two kinds and numbers of a class are one deliverer. A restored one has no number, nor has the class Own.
-pub fn same_who(class: Class, kind: u64, number: u64, other: u64, mark: u64) -> bool
-    ensures { result ≡ same_deliverer (read_who class kind number) (read_who class other mark) }
+// Whether two places of a class have one deliverer. A restored one has no number, nor has the class Own: so no derived `==` is it.
+#[tactic(auto, using(crate::proofs::Whose::who_restored, crate::proofs::Whose::who_other, crate::proofs::Whose::who_numbered, crate::proofs::Whose::who_own))]
+pub fn same_who(class: Class, place: &[u64], other: &[u64]) -> bool
+    requires { (place_head ≤ length place.now) × (place_head ≤ length other.now) }
+    ensures { result ≡ same_deliverer (read_who class (get_or place.now 0 0) (get_or place.now 1 0)) (read_who class (get_or other.now 0 0) (get_or other.now 1 0)) }
 {
-    if kind == codes::RESTORED {
-        return other == codes::RESTORED;
-    }
-    if other == codes::RESTORED {
-        return false;
+    let kind = place[layout::PLACE_KIND];
+    let other_kind = other[layout::PLACE_KIND];
+    if kind == codes::RESTORED || other_kind == codes::RESTORED {
+        return kind == other_kind;
     }
     match class {
-        Class::Feeders => number == mark,
-        Class::Peers => number == mark,
+        Class::Feeders | Class::Peers => place[layout::PLACE_NUMBER] == other[layout::PLACE_NUMBER],
         Class::Own => true,
     }
 }

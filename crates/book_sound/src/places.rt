@@ -1,55 +1,45 @@
 // The places of a class, tested and added up in one pass.
 ghost use Rattle.std.specs.Prelude.{◌≡◌, ◌&&◌};
-ghost use Rattle.book_sound.specs.PlaceAt.{Within, read_from, test_from, totals_rule, agreeing};
+ghost use Rattle.runs.specs.Words.{zeros};
+ghost use Rattle.book_sound.specs.PlaceAt.{Within, places_in, test_in, agreeing, totals_rule, no_sums};
 
-use crate::{place, placing};
+use crate::{Sums, place};
 use model::{Class, Shares};
 use numbers::bounds::MOST_ENTRIES;
 use numbers::{layout, starts, units};
 
-// The sums are in bounds, and are the totals.
-fn agree(entries: u64, holders: u64, units: u64, sum: u64, used: u64, cost: u64) -> bool
-    ensures { result ≡ agreeing entries holders units sum used cost }
+// What is left is 0, and the sums are in bounds and are the totals.
+fn agree(left: &[u64], sums: Sums, totals: Sums) -> bool
+    ensures { result ≡ (zeros left.now && agreeing totals sums) }
 {
-    (sum <= MOST_ENTRIES) & ((entries == sum) & ((holders == used) & (units == cost)))
+    runs::zeros_only(left) && (sums.entries <= MOST_ENTRIES && totals == sums)
 }
 
 // Used places come first and are sound, unused ones are 0, and the three totals are the sums. A place that passed has at most
 // 2,000,000 entries, so that no sum of 64 places wraps.
-pub fn places_sound(
-    body: &[u64],
-    shares: Shares,
-    class: Class,
-    entries: u64,
-    holders: u64,
-    units: u64,
-) -> bool
+pub fn places_sound(body: &[u64], shares: Shares, class: Class, totals: Sums) -> bool
     requires { Within shares body.now }
-    ensures { result ≡ (test_from shares class 0 body.now && totals_rule shares entries holders units 0 0 0 (read_from shares class 0 body.now)) }
+    ensures { result ≡ (test_in shares class body.now && totals_rule shares totals no_sums (places_in shares class body.now)) }
 {
     let width = starts::place_width(shares);
-    let mut sum = 0u64;
-    let mut cost = 0u64;
-    let mut i = 0;
-    while i < shares.places as usize {
-        let a = placing::start_of(shares, i);
-        let e = a + width;
-        let used = place::in_use(&body[a..e]);
-        if !used {
-            let rest = runs::zeros_only(&body[a..]);
-            let same = agree(entries, holders, units, sum, i as u64, cost);
-            return rest & same;
+    let mut sums = Sums {
+        entries: 0,
+        holders: 0,
+        units: 0,
+    };
+    let mut left = body;
+    for place in body.chunks_exact(width) {
+        if !place::in_use(place) {
+            return agree(left, sums, totals);
         }
-        let sound = place::place_sound(&body[a..e], shares.pairs, class);
-        if !sound {
+        if !place::place_sound(place, shares.pairs, class) {
             return false;
         }
-        let d = a + layout::PLACE_ENTRIES;
-        let more = body[d];
-        let place = units::units_of(shares, class, body[a]);
-        sum += more;
-        cost += more + place;
-        i += 1;
+        let entries = place[layout::PLACE_ENTRIES];
+        sums.entries += entries;
+        sums.holders += 1;
+        sums.units += entries + units::units_of(shares, class, place[layout::PLACE_KIND]);
+        left = &left[width..];
     }
-    agree(entries, holders, units, sum, i as u64, cost)
+    agree(left, sums, totals)
 }

@@ -17,18 +17,26 @@ use std::io;
 // The words of the class.
 const WORDS: usize = layout::CLASS_HEAD + 4 * (2 * 2 + layout::PLACE_HEAD);
 
-fn print(rt: &impl Print, n: u64, end: u8) -> io::Result<()> {
-    print!(rt; "{n}")?;
-    rt.write_all(&[end])
-}
+const SHARES: Shares = Shares {
+    places: 4,
+    pairs: 2,
+    feeder: 1,
+    peer: 2,
+};
+
+const LIMITS: Limits = Limits {
+    feeder: 12,
+    feeders: 12,
+    peer: 12,
+    peers: 12,
+    relay: 12,
+};
 
 fn show(rt: &impl Print, words: &[u64]) -> io::Result<()> {
-    let mut i = 0;
-    while i < words.len() {
-        print(rt, words[i], b' ')?;
-        i += 1;
+    for word in words {
+        print!(rt; "{word} ")?;
     }
-    rt.write_all(&[b'\n'])
+    println!(rt; "")
 }
 
 fn number_of(d: Draw) -> u64 {
@@ -49,7 +57,7 @@ fn begin(words: &mut [u64])
     requires { length words.old ≡ class_width fixed }
     ensures { ClassIs fixed Feeders words.new }
 {
-    runs::clear_words(words);
+    words.fill(0);
 }
 
 // One draw of a Feeder; its answer is printed.
@@ -57,28 +65,9 @@ fn take(rt: &impl Print, words: &mut [u64], id: u64, second: u64) -> io::Result<
     requires { ClassIs fixed Feeders words.old × (second ≤ top32) }
     ensures { ClassIs fixed Feeders words.new }
 {
-    let shares = Shares {
-        places: 4,
-        pairs: 2,
-        feeder: 1,
-        peer: 2,
-    };
-    let limits = Limits {
-        feeder: 12,
-        feeders: 12,
-        peer: 12,
-        peers: 12,
-        relay: 12,
-    };
-    let d = book::take(
-        words,
-        shares,
-        limits,
-        false,
-        Deliverer::Feeder(id),
-        Second(second),
-    );
-    print(rt, number_of(d), b' ')
+    let who = Deliverer::Feeder(id);
+    let n = number_of(book::take(words, SHARES, LIMITS, false, who, Second(second)));
+    print!(rt; "{n} ")
 }
 
 // One draw of a Feeder given back.
@@ -86,13 +75,7 @@ fn untake(words: &mut [u64], id: u64, second: u64)
     requires { ClassIs fixed Feeders words.old }
     ensures { ClassIs fixed Feeders words.new }
 {
-    let shares = Shares {
-        places: 4,
-        pairs: 2,
-        feeder: 1,
-        peer: 2,
-    };
-    book::untake(words, shares, Deliverer::Feeder(id), Second(second));
+    book::untake(words, SHARES, Deliverer::Feeder(id), Second(second));
 }
 
 // So many draws of one Feeder at one second.
@@ -100,10 +83,8 @@ fn takes(rt: &impl Print, words: &mut [u64], id: u64, second: u64, times: u64) -
     requires { ClassIs fixed Feeders words.old × (second ≤ top32) }
     ensures { ClassIs fixed Feeders words.new }
 {
-    let mut i = 0;
-    while i < times {
+    'draws: for _ in 0..times {
         take(rt, words, id, second)?;
-        i += 1;
     }
     show(rt, words)
 }

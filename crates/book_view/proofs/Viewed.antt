@@ -2,6 +2,7 @@
 use Prim.Native.Nat.{ℕ, suc, ◌+◌, ◌-◌, ◌*◌, ◌<◌, ◌≤◌}
 use native.Mathlib.Omega.{arith}
 use mathlib.Core.Path.{◌≡◌, refl, ap, sym, ◌∙◌}
+use Rattle.std.proofs.Common.{Some, None}
 use mathlib.Core.List.{List, [], ◌∷◌, ◌++◌, append_assoc}
 use lib.ListN.{length, get_or, set, drop, length-append}
 use lib.Seq.{drop-cons, set_at}
@@ -11,23 +12,17 @@ use Rattle.model.specs.declared.Shares.{Shares}
 use Rattle.runs.specs.Chunks.{flat}
 use Rattle.model.specs.Widths.{class_head, place_width}
 use Rattle.model.specs.Class.{class_of}
-use Rattle.model.specs.Book.{Book, Place, entries, entries_of, pairs_of, places_of}
+use Rattle.model.specs.Book.{Place, entries, entries_of, pairs_of}
 use Rattle.model.specs.BookWords.{pair_words, read_pairs}
-use Rattle.model.specs.RawViews.{deliverer_view}
 use Rattle.model.specs.Calls.{written_over}
 use Rattle.model.proofs.BookWords.{length_pairs, length_read, read_flat}
 use Rattle.book.specs.PlaceRules.{Wide, pairs_in}
-use Rattle.book.specs.ClassRules.{ClassIs, ClassReads, place_index}
+use Rattle.book.specs.ClassRules.{ClassIs, ClassReads, place_of}
 use Rattle.book.proofs.ClassWords.{nobody, reads_one, holders_are}
 use Rattle.book.proofs.ClassLists.{entries_at, pairs_at, entries_none, pairs_none}
 use Rattle.book.proofs.PlaceTurns.{cells_in, tail_is}
-use Rattle.book.proofs.Finding.{in_part, part_wide, part_here, index_is}
+use Rattle.book.proofs.Finding.{in_part, in_use, nowhere, part_wide, part_here, index_is}
 use Rattle.book_view.specs.Views.{places_view, place_view, Writes, HoldsView, ViewsPlaces}
-
--- ---- the model's view is that of the places of the deliverer's class
-pub deliverer_is : (who : Deliverer) (book : Book) → deliverer_view who book ≡ places_view who (places_of (class_of who) book)
-unfolding deliverer_view
-deliverer_is who book = refl
 
 -- ---- one place
 pairs_long : (ws : List ℕ) → length (flat pair_words (pairs_in ws)) ≡ 2 * get_or ws 3 0
@@ -68,24 +63,24 @@ module _ {b : Shares} (who : Deliverer) {ws : List ℕ} (w : ClassIs b (class_of
     count = reads_one b (class_of who) ws w.is (d.count ∙ ap length e);
   }
 
-  module _ {at : ℕ} (r : ClassReads b (class_of who) (λ h. place_index who h.places) ws at) where
-    -- ---- a deliverer without a place
-    module _ (h : get_or ws 1 0 ≤ at) where
-      stranger_is : 0 ∷ [] ≡ places_view who all
-      unfolding flat
-      stranger_is =
-          let k = holders_are b (class_of who) ws w in
-          let i = index_is b who 0 ws w at r in
-          rw (pairs_none who 0 all (omega arith), entries_none who 0 all (omega arith))
+  -- ---- a deliverer without a place
+  module _ (r : ClassReads b (class_of who) (λ h. place_of who h.places) ws None) where
+    stranger_is : 0 ∷ [] ≡ places_view who all
+    unfolding flat
+    stranger_is = let l = nowhere b who ws w r in rw (pairs_none who 0 all l, entries_none who 0 all l)
 
-      pub stranger_counted : ClassReads b (class_of who) (λ x. length (places_view who x.places)) ws 1
-      stranger_counted = reads_one b (class_of who) ws w.is (ap length stranger_is)
+    pub stranger_counted : ClassReads b (class_of who) (λ x. length (places_view who x.places)) ws 1
+    stranger_counted = reads_one b (class_of who) ws w.is (ap length stranger_is)
 
-      pub stranger_viewed : {out : List ℕ} → HoldsView b who ws out → ViewsPlaces b who ws out (set out 0 0) 1
-      stranger_viewed {out} f = view_is stranger_is (record { out = last_over [] out 0 0 refl (view_some f); count = refl })
+    pub stranger_viewed : {out : List ℕ} → HoldsView b who ws out → ViewsPlaces b who ws out (set out 0 0) 1
+    stranger_viewed {out} f = view_is stranger_is (record { out = last_over [] out 0 0 refl (view_some f); count = refl })
 
-    -- ---- one that has a place, at word a
-    module _ (h : at < get_or ws 1 0) {a n : ℕ} (ha : a ≡ class_head + at * place_width b.pairs) (hn : n ≡ place_width b.pairs) where
+  -- ---- one that has a place, at word a
+  module _ {at : ℕ} (r : ClassReads b (class_of who) (λ h. place_of who h.places) ws (Some at)) where
+    h : at < get_or ws 1 0
+    h = in_use b who ws w at r
+
+    module _ {a n : ℕ} (ha : a ≡ class_head + at * place_width b.pairs) (hn : n ≡ place_width b.pairs) where
       abbrev here : List ℕ
       here = mid_of a (a + n - a) ws
 
@@ -101,7 +96,8 @@ module _ {b : Shares} (who : Deliverer) {ws : List ℕ} (w : ClassIs b (class_of
       here_is : place_view here ≡ places_view who all
       here_is =
           let k = holders_are b (class_of who) ws w in
-          let i = index_is b who 0 ws w at r in
+          let l = h in
+          let i = index_is b who ws w at r in
           let p = get_or all at nobody in
           let s = part_here b (class_of who) ws w at a (a + n) h ha ends in
           let q : pairs_of who all ≡ p.pairs = rw (← i) at (pairs_at who 0 all (omega arith)) in

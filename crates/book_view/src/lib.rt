@@ -15,6 +15,7 @@ use numbers::{layout, starts};
 const EACH: usize = 2;
 
 // How many words a place's view has.
+#[tactic(auto, using(crate::proofs::Viewed::place_counted))]
 fn place_length(place: &[u64]) -> usize
     requires { Wide place.now }
     ensures { result ≡ length (place_view place.now) }
@@ -39,14 +40,12 @@ pub fn view_length(part: &[u64], shares: Shares, who: Deliverer) -> usize
     requires { ClassIs shares (class_of who) part.now }
     ensures { ClassReads shares (class_of who) (λ h. length (places_view who h.places)) part.now result }
 {
-    let at = book::find_place(part, shares, who);
-    let holders = part[layout::CLASS_HOLDERS] as usize;
-    if holders <= at {
+    let Some(at) = book::find_place(part, shares, who) else {
         return 1;
-    }
-    let a = starts::place_start(shares, at);
-    let e = a + starts::place_width(shares);
-    place_length(&part[a..e])
+    };
+    let start = starts::place_start(shares, at);
+    let end = start + starts::place_width(shares);
+    place_length(&part[start..end])
 }
 
 // Writes it at the start of an output that is long enough, leaves what lies behind it, and answers how many words it has.
@@ -54,13 +53,11 @@ pub fn view(out: &mut [u64], part: &[u64], shares: Shares, who: Deliverer) -> us
     requires { ClassIs shares (class_of who) part.now × HoldsView shares who part.now out.old }
     ensures { ViewsPlaces shares who part.now out.old out.new result }
 {
-    let at = book::find_place(part, shares, who);
-    let holders = part[layout::CLASS_HOLDERS] as usize;
-    if holders <= at {
+    let Some(at) = book::find_place(part, shares, who) else {
         out[0] = 0;
         return 1;
-    }
-    let a = starts::place_start(shares, at);
-    let e = a + starts::place_width(shares);
-    put_place(out, &part[a..e])
+    };
+    let start = starts::place_start(shares, at);
+    let end = start + starts::place_width(shares);
+    put_place(out, &part[start..end])
 }

@@ -1,21 +1,11 @@
 -- The text of a number by its last digit, and a text that is written byte by byte. Assumes nothing.
-use Prim.Native.Nat.{ℕ, zero, suc, ◌+◌, ◌/◌, ◌≤◌, ◌<◌}
-use native.Mathlib.Omega.{arith}
-use mathlib.Core.Bool.{Bool, true, false}
-use mathlib.Core.Path.{◌≡◌, refl, sym, ap, ◌∙◌}
-use mathlib.Core.List.{List, [], ◌∷◌, ◌++◌, append_assoc}
-use lib.Dec.{ltb}
-use lib.ListN.{length, get_or, take, drop, set, length-append}
+use Rattle.std.proofs.Common.{ℕ, zero, suc, ◌≡◌, ◌+◌, ◌/◌, ◌<◌, ◌≤◌, List, [], ◌∷◌, ◌++◌, length, get_or, take, drop, set, refl, sym, ap, ◌∙◌, inl, inr, arith}
+use Rattle.std.proofs.lemmas.Bool.{cases_lt}
+use mathlib.Core.List.{append_assoc}
+use lib.ListN.{length-append}
 use lib.Seq.{drop-cons, set_at, set_split, length-take-le}
-use borrow.Author.Tests.{lt-ltb, le-ltb, ltb-true, ltb-false}
+use borrow.Author.Tests.{lt-ltb, le-ltb}
 use Rattle.decimals.specs.Texts.{last_digit, digits, text_of, with_text}
-
--- by cases on whether a number has one digit
-pub by_digits : {A : Type 0} (n : ℕ) → (n < 10 → A) → (10 ≤ n → A) → A
-by_digits {A} n one more = on (ltb n 10) refl where
-  on : (b : Bool) → ltb n 10 ≡ b → A
-  on true e = one (ltb-true n 10 e)
-  on false e = more (ltb-false n 10 e)
 
 -- ---- the text of a number by its last digit
 
@@ -32,9 +22,10 @@ digits_long most n h = simp (le-ltb n 10 h)
 same_digits : (a b n : ℕ) → n ≤ a → n ≤ b → digits a n ≡ digits b n
 same_digits zero b n h k = digits_short zero n (omega arith) ∙ sym (digits_short b n (omega arith))
 same_digits (suc a) zero n h k = digits_short (suc a) n (omega arith) ∙ sym (digits_short zero n (omega arith))
-same_digits (suc a) (suc b) n h k = by_digits n
-    (λ s. digits_short (suc a) n s ∙ sym (digits_short (suc b) n s))
-    (λ l. digits_long a n l ∙ ap (λ (t : List ℕ). t ++ (last_digit n ∷ [])) (same_digits a b (n / 10) (omega arith) (omega arith)) ∙ sym (digits_long b n l))
+same_digits (suc a) (suc b) n h k = elim (cases_lt n 10) [
+  | inl s ↦ digits_short (suc a) n s ∙ sym (digits_short (suc b) n s)
+  | inr l ↦ digits_long a n l ∙ ap (λ (t : List ℕ). t ++ (last_digit n ∷ [])) (same_digits a b (n / 10) (omega arith) (omega arith)) ∙ sym (digits_long b n l)
+]
 
 pub text_short : (n : ℕ) → n < 10 → text_of n ≡ last_digit n ∷ []
 unfolding text_of

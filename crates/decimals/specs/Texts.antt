@@ -1,23 +1,20 @@
 -- Decimal numbers as text, without a sign: the number that a text names, and the text of a number. Assumes nothing.
-use Rattle.std.specs.Prelude.{ℕ, zero, suc, ◌+◌, ◌*◌, ◌-◌, ◌/◌, ◌%◌, ◌&&◌, cond, List, [], ◌∷◌, ◌++◌, leb, ltb, length, take, drop}
-use Rattle.decimals.specs.declared.Number.{Number}
-use Rattle.decimals.specs.declared.Number.TheVariants.{Is, Not}
+use Rattle.std.specs.Prelude.{ℕ, zero, suc, ◌+◌, ◌*◌, ◌-◌, ◌/◌, ◌%◌, ◌&&◌, cond, List, [], ◌∷◌, ◌++◌, leb, ltb, length, take, drop, fold, Option, Some, None}
 
 -- a number with one more digit behind it: none where the byte is no digit, or 64 bits do not hold the number
-abbrev pub with_digit : Number → ℕ → Number
-with_digit Not b = Not
-with_digit (Is v) b =
-    cond ((leb 48 b && leb b 57) && leb (v * 10 + (b - 48)) 18446744073709551615) (Is (v * 10 + (b - 48))) Not
+abbrev pub with_digit : Option ℕ → ℕ → Option ℕ
+with_digit None b = None
+with_digit (Some v) b =
+    cond ((leb 48 b && leb b 57) && leb (v * 10 + (b - 48)) 18446744073709551615) (Some (v * 10 + (b - 48))) None
 
 -- a number with the digits of a text behind it
-unfoldable pub with_digits : Number → List ℕ → Number
-with_digits n [] = n
-with_digits n (b ∷ text) = with_digits (with_digit n b) text
+abbrev pub with_digits : Option ℕ → List ℕ → Option ℕ
+with_digits = fold with_digit
 
 -- the number that a text names: none for a text with no byte
-unfoldable pub number_of : List ℕ → Number
-number_of [] = Not
-number_of (b ∷ text) = with_digits (Is 0) (b ∷ text)
+unfoldable pub number_of : List ℕ → Option ℕ
+number_of [] = None
+number_of (b ∷ text) = with_digits (Some 0) (b ∷ text)
 
 -- the last digit of a number, as a byte
 abbrev pub last_digit : ℕ → ℕ

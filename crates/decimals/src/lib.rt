@@ -4,57 +4,28 @@
 ghost use Rattle.std.specs.Prelude.{◌≡◌, ◌+◌, ◌≤◌, ◌<◌, length};
 ghost use Rattle.decimals.specs.Texts.{with_digit, number_of, last_digit, text_of, with_text};
 
-// What a text names: a number, or none.
-#[derive(Clone, Copy)]
-pub enum Number {
-    Is(u64),
-    Not,
-}
-
-// Reads the number that a text names.
-pub fn read(text: &[u8]) -> Number
+// Reads the number that a text names: none where the text is empty or a byte is no digit, or where 64 bits do not hold the number.
+pub fn read(text: &[u8]) -> Option<u64>
     ensures { result ≡ number_of text.now }
 {
-    if text.len() == 0 {
-        return Number::Not;
+    if text.is_empty() {
+        return None;
     }
-    let mut n = Number::Is(0);
-    let mut i = 0;
-    while i < text.len() {
-        n = add_digit(n, text[i]);
-        i += 1;
+    let mut n = 0;
+    for b in text {
+        n = joined(n, *b)?;
     }
-    n
+    Some(n)
 }
 
 // Returns a number with one more digit behind it.
-fn add_digit(n: Number, b: u8) -> Number
-    ensures { result ≡ with_digit n b }
+fn joined(n: u64, b: u8) -> Option<u64>
+    ensures { result ≡ with_digit (Some n) b }
 {
-    match n {
-        Number::Not => Number::Not,
-        Number::Is(v) => joined(v, b),
+    if !b.is_ascii_digit() {
+        return None;
     }
-}
-
-fn joined(v: u64, b: u8) -> Number
-    ensures { result ≡ with_digit (Number.Is v) b }
-{
-    if b < 48 {
-        return Number::Not;
-    }
-    if 57 < b {
-        return Number::Not;
-    }
-    let d = (b - 48) as u64;
-    if 1844674407370955161 < v {
-        return Number::Not;
-    }
-    let ten = v * 10;
-    if 18446744073709551615 - ten < d {
-        return Number::Not;
-    }
-    Number::Is(ten + d)
+    n.checked_mul(10)?.checked_add(u64::from(b - b'0'))
 }
 
 // Writes a number into `out` from a place on, and returns the place behind it. Every other byte stays as it was.
@@ -86,5 +57,5 @@ fn put(n: u64, out: &mut [u8], at: usize) -> usize
 fn digit(n: u64) -> u8
     ensures { result ≡ last_digit n }
 {
-    48 + (n % 10) as u8
+    b'0' + (n % 10) as u8
 }

@@ -1,32 +1,24 @@
-// Whether words are distinct, zeros aside, by sorting a copy of them: n words take some n × log n steps, whatever they are.
+// Whether words are distinct, zeros aside, by sorting a copy of them: n words take some n × log n steps, whatever they are. The sort is
+// its own: the library's calls itself, and include/strikes.h promises that nothing does.
 #![tactic(auto)]
 
-ghost use Rattle.std.specs.Prelude.{◌≡◌, ◌≤◌, length, replicate};
+ghost use Rattle.std.specs.Prelude.{◌≡◌, ◌≤◌, length};
 ghost use Rattle.distinct.specs.Runs.{distinct, differs, spare_sorted, Sorts};
 
 use crate::sort::sort;
 
 mod sort;
 
-// The words that there is room for, all 0.
-fn scratch() -> [u64; 1024]
-    ensures { result ≡ replicate 1024 0 }
-{
-    [0u64; 1024]
-}
-
 // Whether no word but 0 is the same as the one before it.
+#[tactic(auto, using(crate::proofs::Telling::differs_on, crate::proofs::Telling::differs_end))]
 fn neighbours_differ(words: &[u64]) -> bool
     ensures { result ≡ differs 0 words.now }
 {
     let mut all = true;
     let mut last = 0;
-    let mut i = 0;
-    while i < words.len() {
-        let word = words[i];
-        all = all & ((word == 0) | (last != word));
-        last = word;
-        i += 1;
+    for word in words {
+        all &= (*word == 0) | (last != *word);
+        last = *word;
     }
     all
 }
@@ -38,18 +30,17 @@ fn distinct_through(words: &[u64], sorted: &mut [u64], spare: &mut [u64]) -> boo
     ensures sorts { Sorts words.now sorted.new }
     ensures spare_after { spare.new ≡ spare_sorted words.now spare.old }
 {
-    runs::copy_words(sorted, words);
+    sorted.copy_from_slice(words);
     sort(sorted, spare);
     neighbours_differ(sorted)
 }
 
-// Whether words are distinct, zeros aside.
+// Whether words are distinct, zeros aside. The arrays are of one size, since nothing here is taken from a heap.
 pub fn are_distinct(words: &[u64]) -> bool
     requires { length words.now ≤ 1024 }
     ensures { result ≡ distinct words.now }
 {
-    let n = words.len();
-    let mut sorted = scratch();
-    let mut spare = scratch();
-    distinct_through(words, &mut sorted[0..n], &mut spare)
+    let mut sorted = [0; 1024];
+    let mut spare = [0; 1024];
+    distinct_through(words, &mut sorted[..words.len()], &mut spare)
 }

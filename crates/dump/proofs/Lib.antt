@@ -1,8 +1,11 @@
+pub mod Bytes
 pub mod Reading
-pub mod Writing
 pub mod Walking
 pub mod Passing
 pub mod Walks
+pub mod Writing
+pub mod Turns
+pub mod Showing
 pub mod Dumping
 pub mod Dumped
 pub mod Writes

@@ -10,16 +10,16 @@ use lib.Dec.{leb}
 use lib.ListN.{length, get_or, drop, length-drop, drop_of_length-le}
 use lib.Seq.{drop-cons, get_or-take, get_or-drop, length-take-le}
 use borrow.Author.Tests.{leb-true}
+use Rattle.std.specs.Prelude.{None, Some}
 use Rattle.runs.proofs.Cases.{by_test, no}
 use Rattle.model.specs.Dump.{words_of, read_dump}
-use Rattle.dump.specs.declared.walk.Lengths.TheVariants.{Cut, Read}
 use Rattle.dump.specs.Walk.{length_at, dumped_at, next_at, dumped_from, end_from, class_end, peers_at, own_at, dump_end, lengths_of, Walks, Steps, ClassWalks, Whole}
 use Rattle.dump.proofs.Reading.{words_long}
 use Rattle.dump.proofs.Walking.{end_next, dumped_next, end_after, class_after, words_read}
 use Rattle.dump.proofs.Passing.{lengths_are}
 
 -- ---- what the lengths tell
-pub cut : (bs : List ℕ) → Cut ≡ lengths_of (read_dump bs) → read_dump bs ≡ none
+pub cut : (bs : List ℕ) → None ≡ lengths_of (read_dump bs) → read_dump bs ≡ none
 unfolding read_dump
 cut bs t =
     let l = words_long (length bs / 8) bs in
@@ -33,7 +33,7 @@ class_walks bs p h = record {
   walks = record { ends = refl; inside = h };
 }
 
-pub whole : (bs : List ℕ) (words : ℕ) → Read words ≡ lengths_of (read_dump bs) → Whole bs words
+pub whole : (bs : List ℕ) (words : ℕ) → Some words ≡ lengths_of (read_dump bs) → Whole bs words
 unfolding read_dump
 whole bs words t =
     let ws = words_of bs in

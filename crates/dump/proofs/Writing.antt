@@ -1,49 +1,43 @@
--- Bytes written one by one, and words one after the other.
-use Prim.Native.Nat.{ℕ, suc, ◌+◌, ◌-◌, ◌/◌, ◌%◌, ◌<◌}
-use native.Mathlib.Omega.{arith}
-use mathlib.Core.Path.{◌≡◌, refl, sym, ◌∙◌}
+-- Words that are still to be written: the first of them, and then the rest.
+use Prim.Native.Nat.{ℕ, ◌+◌, ◌<◌, ◌≤◌}
+use native.Mathlib.Numerals.{add-one}
+use mathlib.Core.Path.{◌≡◌, sym, ◌∙◌}
 use mathlib.Core.List.{List, [], ◌∷◌, ◌++◌}
-use lib.ListN.{length, set}
-use Rattle.runs.specs.Over.{written}
-use Rattle.runs.proofs.Over.{one_then, written_none, Writes as WritesOver}
-use Rattle.runs.proofs.Over as over
-use Rattle.model.specs.Dump.{bytes_of, word_bytes}
-use Rattle.dump.specs.Bytes.{Puts}
+use lib.Dec.{eqb}
+use lib.ListN.{length, get_or, set, drop, drop_of_length-le}
+use lib.Seq.{drop-cons}
+use Rattle.runs.specs.Over.{written, Fits, Puts}
+use Rattle.runs.proofs.Cases.{by_test}
+use Rattle.runs.proofs.Over.{one_then, written_none, Writes, writes_fits, writes_on, writes_end}
+use Rattle.model.specs.Dump.{fingerprints}
 
--- ---- put_word: what is written when the rest of the number is written from byte i on
-module _ (at n : ℕ) (out₀ : List ℕ) where
-  pub put_start : written (at + 0) (bytes_of (8 - 0) n) out₀ ≡ written at (word_bytes n) out₀
-  put_start = let e : at + 0 ≡ at = omega arith in rw e
+module _ {enc : ℕ → List ℕ} {k p p₀ : ℕ} {out ws₀ out₀ all : List ℕ} where
+  pub first_fits : (us vs : List ℕ) → all ≡ us ++ vs → Writes enc k p all out p₀ ws₀ out₀ → Fits k p us out
+  first_fits us vs split w = writes_fits us vs (rw split at w)
 
-  module _ (i left : ℕ) (out : List ℕ) (same : written (at + i) (bytes_of (8 - i) left) out ≡ written at (word_bytes n) out₀) where
-    pub put_on : i < 8 → at + i < length out
-        → written (at + (i + 1)) (bytes_of (8 - (i + 1)) (left / 256)) (set out (at + i) (left % 256)) ≡ written at (word_bytes n) out₀
-    unfolding bytes_of
-    put_on h k =
-        let e : 8 - i ≡ suc (8 - (i + 1)) = omega arith in
-        let p : at + (i + 1) ≡ at + i + 1 = omega arith in
-        rw (p, one_then (at + i) (left % 256) (bytes_of (8 - (i + 1)) (left / 256)) out k) (rw e at same)
+  pub first_on : (us vs : List ℕ) → all ≡ us ++ vs → Writes enc k p all out p₀ ws₀ out₀ → ((n : ℕ) → length (enc n) ≡ k)
+      → {after : List ℕ} {r : ℕ} → Puts enc k p us out after r → Writes enc k r vs after p₀ ws₀ out₀
+  first_on us vs split w wide d = writes_on wide us vs (rw split at w) d
 
-    pub put_end : i ≡ 8 → out ≡ written at (word_bytes n) out₀
-    unfolding bytes_of
-    put_end e =
-        let z : 8 - i ≡ 0 = omega arith in
-        sym (written_none (at + i) out) ∙ (rw z at same)
+  pub none_left : all ≡ [] → Writes enc k p all out p₀ ws₀ out₀ → Puts enc k p₀ ws₀ out₀ out p
+  none_left e w = writes_end (rw e at w)
 
--- ---- words as their bytes
-abbrev pub Writes : ℕ → List ℕ → List ℕ → ℕ → List ℕ → List ℕ → Type 0
-Writes p ws out p₀ ws₀ out₀ = WritesOver word_bytes 8 p ws out p₀ ws₀ out₀
+-- a word that is set is one word written
+pub set_one : (p v : ℕ) (out : List ℕ) → p < length out → set out p v ≡ written p (v ∷ []) out
+set_one p v out h = sym (written_none (p + 1) (set out p v)) ∙ one_then p v [] out h
 
-word_wide : (n : ℕ) → length (word_bytes n) ≡ 8
-unfolding bytes_of
-word_wide n = refl
+-- ---- words, and the fingerprints of slots, by position
+module _ (ws : List ℕ) (i : ℕ) where
+  pub words_split : i < length ws → drop i ws ≡ (get_or ws i 0 ∷ []) ++ drop (i + 1) ws
+  words_split h = rw (drop-cons ws i 0 h, add-one)
 
-pub writes_on : {p p₀ : ℕ} {out ws₀ out₀ : List ℕ} (us vs : List ℕ) → Writes p (us ++ vs) out p₀ ws₀ out₀
-    → {after : List ℕ} {r : ℕ} → Puts p us out after r → Writes r vs after p₀ ws₀ out₀
-writes_on us vs w d = over.writes_on word_wide us vs w d
+  pub prints_split : i < length ws → fingerprints (drop i ws) ≡ fingerprints (get_or ws i 0 ∷ []) ++ fingerprints (drop (i + 1) ws)
+  unfolding fingerprints
+  prints_split h = rw (drop-cons ws i 0 h, add-one) (by_test (eqb (get_or ws i 0) 0) (λ e. rw e) (λ e. rw e))
 
-pub puts_none : (p : ℕ) (out : List ℕ) → Puts p [] out out p
-puts_none p out = over.puts_none word_bytes 8 p out
+  pub words_end : length ws ≤ i → drop i ws ≡ []
+  words_end h = drop_of_length-le ws {i = i} h
 
-pub puts_one : {p n : ℕ} {before after : List ℕ} → after ≡ written p (word_bytes n) before → (r : ℕ) → r ≡ p + 8 → Puts p (n ∷ []) before after r
-puts_one e r k = over.puts_one word_bytes 8 e r k
+  pub prints_end : length ws ≤ i → fingerprints (drop i ws) ≡ []
+  unfolding fingerprints
+  prints_end h = rw (drop_of_length-le ws {i = i} h)

@@ -1,4 +1,4 @@
--- A dump by the words of a register, whatever they are. Of the words of a well-formed register it is the model's (proofs/Parts).
+-- A dump by the words of a register, whatever they are. Of the words of a well-formed register it is the model's (proofs/Dumped).
 use Rattle.std.specs.Prelude.{ℕ, zero, suc, ◌+◌, ◌*◌, ◌≤◌, cond, List, [], ◌∷◌, ◌++◌, eqb, length, get_or, take, drop}
 use Rattle.model.specs.Widths.{generation_head}
 use Rattle.model.specs.GenerationWords.{live_slots}
@@ -38,6 +38,14 @@ unfoldable pub AllBounded : ℕ → ℕ → List ℕ → Type 0
 AllBounded k zero ws = Unit {0}
 AllBounded k (suc n) ws = Bounded (take k ws) × AllBounded k n (drop k ws)
 
+-- what is shown of a class: words before its generations (head), and what each comes to (f)
+abbrev pub ring_shown : (ℕ → ℕ → List ℕ → List ℕ) → (List ℕ → List ℕ) → ℕ → ℕ → List ℕ → List ℕ
+ring_shown head f k n ws = head k n ws ++ parts f k n ws
+
+-- a dump has a count there
+abbrev pub count_before : ℕ → ℕ → List ℕ → List ℕ
+count_before k n ws = parts_held k n ws ∷ []
+
 pub record Laid (k n : ℕ) (ws : List ℕ) : Type 0 where
   pub wide : generation_head ≤ k
   pub few : n ≤ 256
@@ -50,6 +58,15 @@ floor_of flag floor = dumped_floor (read_floor flag floor)
 
 abbrev pub ring_at : ℕ → ℕ → ℕ → List ℕ → List ℕ
 ring_at k n i ws = take (n * k) (drop (heading_width + i * (n * k)) ws)
+
+-- what is shown of the three classes
+abbrev pub register_shown : (ℕ → ℕ → List ℕ → List ℕ) → (List ℕ → List ℕ) → ℕ → ℕ → List ℕ → List ℕ
+register_shown head f k n ws =
+    ring_shown head f k n (ring_at k n 0 ws) ++ (ring_shown head f k n (ring_at k n 1 ws) ++ ring_shown head f k n (ring_at k n 2 ws))
+
+-- how many generations of them are held
+abbrev pub held_parts : ℕ → ℕ → List ℕ → ℕ
+held_parts k n ws = parts_held k n (ring_at k n 0 ws) + parts_held k n (ring_at k n 1 ws) + parts_held k n (ring_at k n 2 ws)
 
 unfoldable pub register_words : ℕ → ℕ → List ℕ → List ℕ
 register_words k n ws =

@@ -2,12 +2,9 @@
 -- the bytes. Here is what lies at a position, said of any words: past their end they read as 0, so that a walk comes to an end
 -- past the last word exactly when the model says that the dump is cut short.
 use Rattle.std.specs.Prelude.{ℕ, zero, suc, ◌+◌, ◌-◌, ◌/◌, ◌<◌, ◌≤◌, ◌≡◌, cond, List, [], ◌∷◌, leb, length, get_or, take, drop}
+use Rattle.std.specs.Prelude.{Option as Answer, None, Some}
 use Rattle.std.proofs.Math.Option.{Option, none, some}
 use Rattle.model.specs.Dump.{Dumped, Dump, words_of, read_dump}
-use Rattle.dump.specs.declared.walk.Passed.{Passed}
-use Rattle.dump.specs.declared.walk.Passed.TheVariants.{Short, To}
-use Rattle.dump.specs.declared.walk.Lengths.{Lengths}
-use Rattle.dump.specs.declared.walk.Lengths.TheVariants.{Cut, Read}
 use Rattle.dump.specs.declared.walk.Found.{Found}
 
 -- ---- one generation: its bucket, its newest, its length, its fingerprints
@@ -55,14 +52,14 @@ dump_at ws = record {
 }
 
 -- ---- what code answers
--- a walk that ends at position e of so many words
-abbrev pub passed_to : ℕ → ℕ → Passed
-passed_to e all = cond (leb e all) (To e) Short
+-- a walk that ends at position e of so many words: none where that is past them
+abbrev pub passed_to : ℕ → ℕ → Answer ℕ
+passed_to e all = cond (leb e all) (Some e) None
 
--- the lengths of a dump, which is none where it is cut short
-abbrev pub lengths_of : Option Dump → Lengths
-lengths_of none = Cut
-lengths_of (some d) = Read d.words
+-- how many words a dump has, and none where it is cut short
+abbrev pub lengths_of : Option Dump → Answer ℕ
+lengths_of none = None
+lengths_of (some d) = Some d.words
 
 pub record FoundAt (ws : List ℕ) (p : ℕ) (f : Found) : Type 0 where
   pub bucket : f.bucket.0 ≡ (dumped_at ws p).bucket

@@ -4,18 +4,16 @@ ghost use Rattle.model.specs.Dump.{dump_bytes};
 ghost use Rattle.register.specs.Words.{RegisterWords, RegisterReads};
 ghost use Rattle.dump.specs.Outputs.{Holds, Outputs};
 
+use crate::held::shape_of;
 use crate::write;
 use model::Usable;
-use numbers::{layout, spans};
 
 // How many bytes the dump has.
 pub fn dump_length(part: &[u64], u: Usable) -> usize
     requires { RegisterWords u part.now }
     ensures { RegisterReads u (λ reg. length (dump_bytes reg)) part.now result }
 {
-    let ring = spans::ring_of(u) as usize;
-    let wide = (u.slots as usize) + layout::GENERATION_HEAD;
-    write::dump_length(part, wide, ring)
+    write::dump_length(part, shape_of(u))
 }
 
 // Writes it at the start of an output that is long enough, leaves what lies behind it, and answers how many bytes it has.
@@ -23,7 +21,5 @@ pub fn dump(out: &mut [u8], part: &[u64], u: Usable) -> usize
     requires { RegisterWords u part.now × Holds dump_bytes u part.now out.old }
     ensures { Outputs dump_bytes u part.now out.old out.new result }
 {
-    let ring = spans::ring_of(u) as usize;
-    let wide = (u.slots as usize) + layout::GENERATION_HEAD;
-    write::put_dump(out, part, wide, ring)
+    write::put_dump(out, part, shape_of(u))
 }

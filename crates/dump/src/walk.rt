@@ -2,24 +2,11 @@
 // words (bucket, newest, length) and its fingerprints.
 ghost use Rattle.std.specs.Prelude.{◌≡◌, ◌+◌, ◌/◌, ◌≤◌, ◌<◌, length, get_or};
 ghost use Rattle.model.specs.Dump.{words_of, read_dump};
-ghost use Rattle.dump.specs.Walk.{passed_to, end_from, class_end, lengths_of, FoundAt};
+ghost use Rattle.dump.specs.Walk.{passed_to, next_at, end_from, class_end, lengths_of, FoundAt};
 
-use crate::reader::read;
+use crate::octets::word;
+use crate::reader::Reader;
 use model::Bucket;
-
-// Where a walk comes to: past the end of the words, or to a word position.
-#[derive(Clone, Copy)]
-enum Passed {
-    Short,
-    To(usize),
-}
-
-// The lengths that a dump states: it is cut short, or it has so many words.
-#[derive(Clone, Copy)]
-pub enum Lengths {
-    Cut,
-    Read(usize),
-}
 
 // What leads a generation in a dump, and the word position of the one after it.
 #[derive(Clone, Copy)]
@@ -32,56 +19,52 @@ pub struct Found {
 
 // ---- the first walk, which tells whether all that the lengths say is there
 
+// Passes the generation at a word position.
+fn pass_generation(bytes: &[u8], at: usize) -> Option<usize>
+    requires { at ≤ length bytes.now / 8 }
+    ensures { result ≡ passed_to (next_at (words_of bytes.now) at) (length bytes.now / 8) }
+{
+    let left = bytes.len() / 8 - at;
+    if left < 3 {
+        return None;
+    }
+    let long = word(bytes, at + 2);
+    if ((left - 3) as u64) < long {
+        return None;
+    }
+    Some(at + 3 + (long as usize))
+}
+
 // Passes n generations from a word position on.
-fn pass_generations(bytes: &[u8], from: usize, n: u64) -> Passed
+fn pass_generations(bytes: &[u8], from: usize, n: u64) -> Option<usize>
     requires { from ≤ length bytes.now / 8 }
     ensures { result ≡ passed_to (end_from (words_of bytes.now) from n) (length bytes.now / 8) }
 {
-    let all = bytes.len() / 8;
     let mut at = from;
-    let mut left = n;
-    while 0 < left {
-        let here = all - at;
-        if here < 3 {
-            return Passed::Short;
-        }
-        let third = read(bytes, at + 2);
-        let long = third.word;
-        if ((here - 3) as u64) < long {
-            return Passed::Short;
-        }
-        at = at + 3 + (long as usize);
-        left -= 1;
+    for _ in 0..n {
+        at = pass_generation(bytes, at)?;
     }
-    Passed::To(at)
+    Some(at)
 }
 
 // Passes a class: its count, and as many generations.
-fn pass_class(bytes: &[u8], from: usize) -> Passed
+fn pass_class(bytes: &[u8], from: usize) -> Option<usize>
     ensures { result ≡ passed_to (class_end (words_of bytes.now) from) (length bytes.now / 8) }
 {
-    let all = bytes.len() / 8;
-    if all <= from {
-        return Passed::Short;
+    if bytes.len() / 8 <= from {
+        return None;
     }
-    let count = read(bytes, from);
-    pass_generations(bytes, count.next, count.word)
+    pass_generations(bytes, from + 1, word(bytes, from))
 }
 
-// Reads the lengths of a dump, of whatever bytes. Bytes behind it are not looked at.
-pub fn read_lengths(bytes: &[u8]) -> Lengths
+// Reads the lengths of a dump, of whatever bytes: how many words it has, and none where it is cut short. Bytes behind it are not
+// looked at.
+pub fn read_lengths(bytes: &[u8]) -> Option<usize>
     ensures { result ≡ lengths_of (read_dump bytes.now) }
 {
-    let Passed::To(peers) = pass_class(bytes, 1) else {
-        return Lengths::Cut;
-    };
-    let Passed::To(own) = pass_class(bytes, peers) else {
-        return Lengths::Cut;
-    };
-    let Passed::To(end) = pass_class(bytes, own) else {
-        return Lengths::Cut;
-    };
-    Lengths::Read(end)
+    let peers = pass_class(bytes, 1)?;
+    let own = pass_class(bytes, peers)?;
+    pass_class(bytes, own)
 }
 
 // ---- the second walk, after the lengths have been read
@@ -91,8 +74,7 @@ pub fn floor_word(bytes: &[u8]) -> u64
     requires { 0 < length bytes.now / 8 }
     ensures { result ≡ get_or (words_of bytes.now) 0 0 }
 {
-    let floor = read(bytes, 0);
-    floor.word
+    word(bytes, 0)
 }
 
 // How many generations the class at a word position has. The first of them is one word on.
@@ -100,8 +82,7 @@ pub fn count_at(bytes: &[u8], at: usize) -> u64
     requires { at < length bytes.now / 8 }
     ensures { result ≡ get_or (words_of bytes.now) at 0 }
 {
-    let count = read(bytes, at);
-    count.word
+    word(bytes, at)
 }
 
 // The generation at a word position.
@@ -109,15 +90,15 @@ pub fn generation_at(bytes: &[u8], at: usize) -> Found
     requires { at + 3 + get_or (words_of bytes.now) (at + 2) 0 ≤ length bytes.now / 8 }
     ensures { FoundAt (words_of bytes.now) at result }
 {
-    let bucket = read(bytes, at);
-    let newest = read(bytes, bucket.next);
-    let length = read(bytes, newest.next);
-    let long = length.word as usize;
+    let mut reader = Reader { bytes, at };
+    let bucket = Bucket(reader.word());
+    let newest = reader.word();
+    let length = reader.word() as usize;
     Found {
-        bucket: Bucket(bucket.word),
-        newest: newest.word,
-        length: long,
-        next: length.next + long,
+        bucket,
+        newest,
+        length,
+        next: reader.at + length,
     }
 }
 
@@ -126,6 +107,5 @@ pub fn print_at(bytes: &[u8], at: usize, k: usize) -> u64
     requires { at + 3 + k < length bytes.now / 8 }
     ensures { result ≡ get_or (words_of bytes.now) (at + 3 + k) 0 }
 {
-    let print = read(bytes, at + 3 + k);
-    print.word
+    word(bytes, at + 3 + k)
 }

@@ -1,6 +1,8 @@
 -- One class expired within the whole run, and the three of them one after the other.
-use Prim.Native.Nat.{ℕ, ◌+◌, ◌-◌, ◌≤◌}
-use mathlib.Core.Path.{◌≡◌, refl, sym, ap, subst, ◌∙◌}
+use Prim.Native.Nat.{ℕ, ◌+◌, ◌-◌, ◌≤◌, min}
+use native.Mathlib.Omega.{arith}
+use Rattle.std.specs.Int.{div_ceil}
+use mathlib.Core.Path.{◌≡◌, refl, ap, subst, ◌∙◌}
 use mathlib.Core.List.{List}
 use borrow.Rule.Slice.PartMut.{mid_of, put_mid}
 use Rattle.runs.proofs.Turns.{then}
@@ -17,7 +19,7 @@ use Rattle.model.specs.Words.{State, state_form, class_width, class_start}
 use Rattle.model.specs.Calls.{step, Expire, least_published}
 use Rattle.model.proofs.Choice.{swap_cases}
 use Rattle.model.proofs.Places.{expire_ok}
-use Rattle.model.proofs.BookKept.{BookOk, short}
+use Rattle.model.proofs.BookKept.{BookOk}
 use Rattle.model.proofs.SoundnessKept.{book_in, with_book_ok}
 use Rattle.book.specs.ClassRules.{ClassTurns}
 use Rattle.taking.specs.Words.{RunWords, StateReads, StateTurns}
@@ -35,8 +37,13 @@ book_expired_ok b c t low k ok =
     }
 
 -- a second that is capped
-pub second_low : (n t : ℕ) → t ≡ cap32 n → t ≤ top32
-second_low n t capped = subst (λ (m : ℕ). m ≤ top32) (sym capped) (short n)
+pub second_low : (n t : ℕ) → t ≡ min n top32 → t ≤ top32
+second_low n t capped = omega arith
+
+-- a number of seconds, rounded up by the library as by the model
+rounded_up : (ms : ℕ) → div_ceil ms 1_000 ≡ ceil ms 1_000
+unfolding ceil
+rounded_up ms = omega arith
 
 module _ (s : Settings) where
   class_expired_ok : (c : Class) (t : ℕ) → t ≤ top32 → (x : State) → (state_form s).Ok x → (state_form s).Ok (class_expired c t x)
@@ -59,14 +66,14 @@ module _ (s : Settings) where
         )
 
   -- ---- all three
-  module _ (ms least n t : ℕ) (up : n ≡ ceil least 1_000) (capped : t ≡ cap32 n) where
+  module _ (ms least n t : ℕ) (up : n ≡ div_ceil least 1_000) (capped : t ≡ min n top32) where
     abbrev three_expired : ℕ → State → State
     three_expired t x = class_expired Own t (class_expired Peers t (class_expired Feeders t x))
 
     -- three classes one after the other are all classes at once
     three_are : (x : State) → least ≡ least_published s 0 x.registers ms → three_expired t x ≡ (step s (Expire ms) x).state
-    unfolding step expire class_expired
-    three_are x is = ap (λ (m : ℕ). three_expired m x) (capped ∙ ap cap32 (up ∙ ap (λ (m : ℕ). ceil m 1_000) is))
+    unfolding step expire class_expired cap32
+    three_are x is = ap (λ (m : ℕ). three_expired m x) (capped ∙ ap cap32 (up ∙ rounded_up least ∙ ap (λ (m : ℕ). ceil m 1_000) is))
 
     pub all_done : (ws one two last : List ℕ) → StateReads s (λ x. least_published s 0 x.registers ms) ws least
         → StateTurns s (class_expired Feeders t) silent ws one (tt {0}) → StateTurns s (class_expired Peers t) silent one two (tt {0})

@@ -6,17 +6,15 @@ ghost use Rattle.model.specs.Calls.{register_at, least_published as least_of_all
 ghost use Rattle.taking.specs.Words.{RunWords, StateReads};
 
 use model::{Judged, Settings};
-use numbers::{capped, starts};
+use numbers::starts;
 
 // The sweep that a register publishes.
 fn published(run: &[u64], s: Settings, r: usize) -> Judged
     requires { RunWords s run.now × (r < s.registers) }
     ensures { StateReads s (λ t. published_for (usable_at s r) (register_at r t).swept) run.now result.0 }
 {
-    let at = starts::register_extent(s, r);
-    let a = at.start;
-    let e = at.end;
-    register::heading::published_sweep(&run[a..e])
+    let extent = starts::register_extent(s, r);
+    register::heading::published_sweep(&run[extent.start..extent.end])
 }
 
 // The least of a reading and what each register publishes.
@@ -24,13 +22,9 @@ pub fn least_published(run: &[u64], s: Settings, reading: Judged) -> Judged
     requires { RunWords s run.now }
     ensures { StateReads s (λ t. least_of_all s 0 t.registers reading.0) run.now result.0 }
 {
-    let n = s.registers as usize;
     let mut least = reading.0;
-    let mut r = 0;
-    while r < n {
-        let published = published(run, s, r);
-        least = capped::smaller(least, published.0);
-        r += 1;
+    for r in 0..s.registers as usize {
+        least = least.min(published(run, s, r).0);
     }
     Judged(least)
 }

@@ -29,7 +29,7 @@ pub fn expire(run: &mut [u64], s: Settings, reading: Judged)
     ensures { StateTurns s (λ t. (step s (Expire reading.0) t).state) silent run.old run.new (tt {0}) }
 {
     let least = least::least_published(run, s, reading);
-    let t = Second(capped::capped_to_32(capped::ceil_div(least.0, 1000)));
+    let t = Second(least.0.div_ceil(1000).min(capped::TOP32));
     expire_class(run, s, Class::Feeders, t);
     expire_class(run, s, Class::Peers, t);
     expire_class(run, s, Class::Own, t);

@@ -17,14 +17,6 @@ use Rattle.model.proofs.Probing.{next<}
 use Rattle.generation.specs.Reach.{steps, passed_to, held_on, unbroken_to, unbroken_from, unbroken, back, Run}
 
 -- ---- steps round the end of n slots
--- probing for x starts at this slot
-module _ (n i x first : ℕ) (e : first ≡ x % n) (some : x ≡ 0 → ⊥) where
-  pub passed_on : first ≤ i → i - first ≡ passed_to n i x
-  passed_on h = rw (ne_eqb x 0 some, ← e, le-leb first i h)
-
-  pub passed_round : i < first → i + n - first ≡ passed_to n i x
-  passed_round h = rw (ne_eqb x 0 some, ← e, lt-leb first i h)
-
 -- the slots before slot i + 1 are slot i and those before it
 back_on : (n i t : ℕ) → back n (i + 1) (suc t) ≡ back n i t
 back_on n i t =

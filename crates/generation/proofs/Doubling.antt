@@ -7,7 +7,7 @@ use mathlib.Core.List.{List}
 use lib.ListN.{length}
 use lib.Dec.{leb}
 use borrow.Author.Tests.{le-leb, lt-leb, leb-true, leb-false}
-use Rattle.runs.proofs.Cases.{by_test, no}
+use Rattle.runs.proofs.Cases.{by_test}
 use Rattle.model.specs.Generation.{count, doubled, slots_for}
 use Rattle.model.proofs.Probing.{count≤}
 use Rattle.model.proofs.Growth.{held_stays, slots_law}
@@ -34,16 +34,6 @@ module _ (m n : ℕ) (p : 0 < n) where
   pub doubled_end : 4 * m ≤ 3 * n → doubled (4 * m) m n ≡ n
   unfolding doubled
   doubled_end l = same (4 * m) 0 m n p (omega arith) (omega arith)
-
--- the two ways of slots_for: as many as before, and doubled
-pub as_before : (known : Bool) (slots held : ℕ) → known ≡ true → slots ≡ slots_after known slots held
-unfolding slots_after
-as_before true slots held e = refl
-as_before false slots held e = no (cc)
-
-pub as_doubled : (known : Bool) (slots held wanted : ℕ) → known ≡ false → wanted ≡ slots_after false slots held → wanted ≡ slots_after known slots held
-as_doubled true slots held wanted e w = no (cc)
-as_doubled false slots held wanted e w = w
 
 -- by the numbers that lead a generation, and by its slots
 pub slots_are : (known : Bool) (s : List ℕ) → slots_for known s ≡ slots_after known (length s) (count s)

@@ -17,8 +17,7 @@ use Rattle.model.specs.Register.{passed}
 use Rattle.model.proofs.Growth.{ok_ways}
 use Rattle.model.proofs.GenerationWords.{rest_pad}
 use Rattle.generation.specs.declared.Generation.{Generation as Leading}
-use Rattle.generation.specs.declared.Dropped.{Dropped}
-use Rattle.generation.specs.declared.Dropped.TheVariants.{Nothing, Newest}
+use Rattle.std.specs.Prelude.{Option, Some, None}
 use Rattle.generation.specs.Rules.{drop_says, dropped_in, drop_in_says, swept_at, sweep_says}
 use Rattle.generation.specs.Words.{Leads, led_by, GenerationReads, GenerationTurns}
 use Rattle.generation.proofs.Looking.{lent_slots, with_lent, slots_part}
@@ -34,7 +33,7 @@ none_held S n i g ok z =
     (λ p some b c r. absurd (omega arith))
 
 module _ (ws : List ℕ) (h : Leading) (leads : Leads ws h) where
-  pub drops_nothing : h.held ≡ 0 → GenerationTurns dropped drop_says ws ws Nothing
+  pub drops_nothing : h.held ≡ 0 → GenerationTurns dropped drop_says ws ws None
   drops_nothing z S n i = record {
     does = λ g ok is.
         let c : count g.slots ≡ 0 = sym (ap (λ (l : List ℕ). get_or l 1 0) is) ∙ sym leads.held ∙ z in
@@ -43,7 +42,7 @@ module _ (ws : List ℕ) (h : Leading) (leads : Leads ws h) where
 
   pub drops_all : (h.held ≡ 0 → ⊥) → (ys : List ℕ) → ys ≡ replicate (length (lent_slots h.slots ws)) 0
       → (next : Leading) → next ≡ record { slots = 0; held = 0; newest = 0; bucket = h.bucket; oldest = 0 }
-      → GenerationTurns dropped drop_says ws (led_by next (with_lent h.slots ws ys)) (Newest h.newest)
+      → GenerationTurns dropped drop_says ws (led_by next (with_lent h.slots ws ys)) (Some h.newest)
   unfolding dropped count
   drops_all some ys y next x S n i = record {
     does = λ g ok is.
@@ -61,7 +60,7 @@ module _ (ws : List ℕ) (h : Leading) (leads : Leads ws h) where
   }
 
 module _ (ws : List ℕ) (b : ℕ) where
-  pub bucket_drops : (last : List ℕ) (r : Dropped) → get_or ws 3 0 ≡ b → GenerationTurns dropped drop_says ws last r
+  pub bucket_drops : (last : List ℕ) (r : Option ℕ) → get_or ws 3 0 ≡ b → GenerationTurns dropped drop_says ws last r
       → GenerationTurns (dropped_in b) (drop_in_says b) ws last r
   bucket_drops last r h t S n i = record {
     does = λ g ok is.
@@ -70,12 +69,9 @@ module _ (ws : List ℕ) (b : ℕ) where
         (rw e q.0, rw e q.1);
   }
 
-  pub bucket_leaves : (get_or ws 3 0 ≡ b → ⊥) → GenerationTurns (dropped_in b) (drop_in_says b) ws ws Nothing
-  bucket_leaves h S n i = record { does = λ g ok is. let e = ne_eqb g.bucket b (rw is at h) in (rw e is, rw e) }
-
 module _ (ws : List ℕ) (through : ℕ) where
   -- a drop is what a sweep does where the bucket is passed, since what holds nothing stays as it is
-  pub sweep_drops : (last : List ℕ) (r : Dropped) → get_or ws 3 0 < through → GenerationTurns dropped drop_says ws last r
+  pub sweep_drops : (last : List ℕ) (r : Option ℕ) → get_or ws 3 0 < through → GenerationTurns dropped drop_says ws last r
       → GenerationTurns (swept_at through) (sweep_says through) ws last r
   unfolding passed
   sweep_drops last r h t S n i = record {
@@ -89,7 +85,7 @@ module _ (ws : List ℕ) (through : ℕ) where
         (λ e. (rw (p, e) q.0, q.1 ∙ rw (p, e)));
   }
 
-  pub sweep_leaves : through ≤ get_or ws 3 0 → GenerationTurns (swept_at through) (sweep_says through) ws ws Nothing
+  pub sweep_leaves : through ≤ get_or ws 3 0 → GenerationTurns (swept_at through) (sweep_says through) ws ws None
   unfolding passed
   sweep_leaves h S n i = record {
     does = λ g ok is. let p = le-ltb g.bucket through (rw is at h) in (rw p is, rw p);
@@ -101,8 +97,8 @@ module _ (ws : List ℕ) (through : ℕ) (h : Leading) (leads : Leads ws h) wher
   unfolding passed
   passed_is S g is = rw (leads.bucket, leads.held, is)
 
-  pub passed_newest : (ltb h.bucket through && not (eqb h.held 0)) ≡ true → GenerationReads (λ S. sweep_says through) ws (Newest h.newest)
+  pub passed_newest : (ltb h.bucket through && not (eqb h.held 0)) ≡ true → GenerationReads (λ S. sweep_says through) ws (Some h.newest)
   passed_newest t S n i = record { says = λ g ok is. rw (← passed_is S g is, t, leads.newest, is) }
 
-  pub passed_nothing : (ltb h.bucket through && not (eqb h.held 0)) ≡ false → GenerationReads (λ S. sweep_says through) ws Nothing
+  pub passed_nothing : (ltb h.bucket through && not (eqb h.held 0)) ≡ false → GenerationReads (λ S. sweep_says through) ws None
   passed_nothing t S n i = record { says = λ g ok is. rw (← passed_is S g is, t) }

@@ -6,10 +6,11 @@ use mathlib.Core.Bool.{Bool, true, false, cond, not, ◌&&◌}
 use mathlib.Core.List.{List}
 use lib.ListN.{length, get_or}
 use lib.Dec.{eqb, leb}
-use borrow.Author.Tests.{eq-eqb, ne_eqb, le-leb, lt-leb}
+use borrow.Author.Tests.{eq-eqb, le-leb, lt-leb}
 use borrow.Rule.Slice.PartMut.{mid_of, put_mid}
 use Rattle.runs.proofs.Words.{length_pad}
 use Rattle.model.specs.declared.Probe.{Probe}
+use Rattle.model.specs.declared.Probe.TheVariants.{Held, Free, Nowhere}
 use Rattle.model.specs.declared.Room.{Room}
 use Rattle.model.specs.declared.Room.TheVariants.{At, Collides, Full}
 use Rattle.model.specs.Widths.{generation_head, generation_width}
@@ -46,6 +47,11 @@ slots_part S g fits ws is n e =
     let k : generation_width n - generation_head ≡ length g.slots = let l = ap (λ (l : List ℕ). get_or l 0 0) is in omega arith in
     rw (k, is) (live_pad S g fits)
 
+pub found_other : (p : Probe) → ((i : ℕ) → p ≡ Held i → ⊥) → false ≡ found p
+found_other (Held i) h = absurd (h i refl)
+found_other (Free i) h = refl
+found_other Nowhere h = refl
+
 module _ (ws : List ℕ) where
   pub contains_reads : (fp : ℕ) (p : Probe) → p ≡ probe (lent_slots (get_or ws 0 0) ws) fp → 0 < fp → (r : Bool) → r ≡ found p
       → GenerationReads (λ S g. among fp g.slots) ws r
@@ -54,10 +60,7 @@ module _ (ws : List ℕ) where
         says ∙ ap found e ∙ rw (slots_part S g ok.fits ws is (get_or ws 0 0) refl) (probe_finds g.slots fp (ok_found S n i g ok) pos);
   }
 
-  -- of another bucket, and of that bucket
-  pub holds_not : (b fp : ℕ) → (get_or ws 3 0 ≡ b → ⊥) → GenerationReads (λ S. holds_in b fp) ws false
-  holds_not b fp h S n i = record { says = λ g ok is. rw (ne_eqb g.bucket b (λ z. h (ap (λ (l : List ℕ). get_or l 3 0) is ∙ z))) }
-
+  -- of that bucket
   pub holds_reads : (b fp : ℕ) (r : Bool) → get_or ws 3 0 ≡ b → GenerationReads (λ S g. among fp g.slots) ws r
       → GenerationReads (λ S. holds_in b fp) ws r
   holds_reads b fp r h t S n i = record {

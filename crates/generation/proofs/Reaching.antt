@@ -3,12 +3,14 @@ use Prim.Native.Nat.{ℕ, zero, suc, ◌+◌, ◌-◌, ◌%◌, ◌<◌, ◌≤�
 use native.Mathlib.Omega.{arith}
 use native.Mathlib.Numerals.{add-one}
 use mathlib.Core.Path.{◌≡◌, refl, sym, ◌∙◌}
-use mathlib.Core.Bool.{true, false, cond}
+use mathlib.Core.Bool.{Bool, true, false, cond, not, ◌||◌}
 use mathlib.Core.List.{List}
 use lib.ListN.{length, get_or, drop, drop_of_length-le}
 use lib.Seq.{drop-cons}
 use lib.Dec.{eqb}
 use borrow.Author.Tests.{eq-eqb, ne_eqb, eqb-true, eqb-false}
+use Rattle.std.specs.List.{count_by}
+use Rattle.std.proofs.lemmas.List.Recursion.{is_count_by}
 use Rattle.runs.proofs.Cases.{by_test, no}
 use Rattle.model.specs.declared.Probe.{Probe}
 use Rattle.model.specs.Generation.{count, next, probe, probe_from}
@@ -16,38 +18,37 @@ use Rattle.model.proofs.Probing.{probe_held, probe_free, probe_on, probe_out}
 use Rattle.model.specs.GenerationWords.{ends_at, reached, reached_from, slots_sound}
 use Rattle.generation.specs.Reach.{near}
 
+neither : (a b : Bool) → (a || b) ≡ false → (a ≡ false) × (b ≡ false)
+neither true b p = no (cc)
+neither false b p = (refl, p)
+
 -- a slot's own fingerprint is near as probing for it ends there within so many steps, and not otherwise
 module _ (s : List ℕ) (i x steps : ℕ) (some : x ≡ 0 → ⊥) where
   ends : {p : Probe} → probe_from s x steps (x % length s) ≡ p → ends_at i p ≡ near s i x steps
   ends e = rw (ne_eqb x 0 some, e)
 
-  -- probing has come to slot j, with a step and so many further ones left
-  module _ (left j : ℕ) (p : probe_from s x steps (x % length s) ≡ probe_from s x (suc left) j) where
-    pub ends_here : j ≡ i → x ≡ get_or s i 0 → true ≡ near s i x steps
-    ends_here e is = sym (eq-eqb j i e) ∙ ends (p ∙ probe_held s x (suc left) j (omega arith) (rw e (sym is)))
+  -- probing has come to slot j, with some steps left, or with none
+  module _ (left j : ℕ) (p : probe_from s x steps (x % length s) ≡ probe_from s x left j) where
+    pub ends_short : left ≤ 0 → false ≡ near s i x steps
+    ends_short z = ends (p ∙ probe_out s x left j z)
 
-    pub ends_before : (j ≡ i → ⊥) → get_or s j 0 ≡ x → false ≡ near s i x steps
-    ends_before n e = sym (ne_eqb j i n) ∙ ends (p ∙ probe_held s x (suc left) j (omega arith) e)
+    module _ (more : 0 < left) where
+      pub ends_here : j ≡ i → x ≡ get_or s i 0 → true ≡ near s i x steps
+      ends_here e is = sym (eq-eqb j i e) ∙ ends (p ∙ probe_held s x left j more (rw e (sym is)))
 
-    pub ends_empty : (get_or s j 0 ≡ x → ⊥) → get_or s j 0 ≡ 0 → false ≡ near s i x steps
-    ends_empty n e = ends (p ∙ probe_free s x (suc left) j (omega arith) n e)
+      -- slot j is another, and has the same fingerprint or none
+      pub ends_other : (j ≡ i → ⊥) → (eqb (get_or s j 0) x || eqb (get_or s j 0) 0) ≡ true → false ≡ near s i x steps
+      ends_other n t =
+          by_test (eqb (get_or s j 0) x)
+          (λ a. sym (ne_eqb j i n) ∙ ends (p ∙ probe_held s x left j more (eqb-true _ _ a)))
+          (λ a. ends (p ∙ probe_free s x left j more (eqb-false _ _ a) (eqb-true _ _ (rw a at t))))
 
-    -- on at the next slot, where a further step is left
-    pub goes_on : (left ≡ 0 → ⊥) → (get_or s j 0 ≡ x → ⊥) → (get_or s j 0 ≡ 0 → ⊥)
-        → probe_from s x steps (x % length s) ≡ probe_from s x (suc (left - 1)) (next (length s) j)
-    goes_on h n m =
-        let e : suc left - 1 ≡ suc (left - 1) = omega (arith, h) in
-        p ∙ (rw e at (probe_on s x (suc left) j (omega arith) n m))
-
-    -- none is left, and slot j is another: whatever it has
-    pub ends_short : left ≡ 0 → (j ≡ i → ⊥) → false ≡ near s i x steps
-    ends_short z n =
-        by_test (eqb (get_or s j 0) x) (λ a. ends_before n (eqb-true _ _ a))
-        (λ a.
-        by_test (eqb (get_or s j 0) 0) (λ b. ends_empty (eqb-false _ _ a) (eqb-true _ _ b))
-        (λ b.
-        let on = probe_on s x (suc left) j (omega arith) (eqb-false _ _ a) (eqb-false _ _ b) in
-        ends (p ∙ on ∙ probe_out s x (suc left - 1) (next (length s) j) (omega arith))))
+      -- on at the next slot
+      pub goes_on : (eqb (get_or s j 0) x || eqb (get_or s j 0) 0) ≡ false
+          → probe_from s x steps (x % length s) ≡ probe_from s x (left - 1) (next (length s) j)
+      goes_on t =
+          let e = neither (eqb (get_or s j 0) x) (eqb (get_or s j 0) 0) t in
+          p ∙ probe_on s x left j more (eqb-false _ _ e.0) (eqb-false _ _ e.1)
 
 -- what probing finds within some steps it finds within more: so a slot that is near is reached
 module _ (s : List ℕ) (i x : ℕ) where
@@ -68,6 +69,13 @@ module _ (s : List ℕ) (i x : ℕ) where
 
 pub one≤1 : (x : ℕ) → cond (eqb x 0) 0 1 ≤ 1
 one≤1 x = by_test (eqb x 0) (λ e. rw e (omega arith)) (λ e. rw e (omega arith))
+
+-- the library's count of those that are not 0
+pub counted : (s : List ℕ) → count_by (λ x. not (eqb x 0)) s ≡ count s
+unfolding count
+counted s =
+    sym (is_count_by count (λ x. not (eqb x 0)) refl
+    (λ x xs. by_test (eqb x 0) (λ e. rw e (omega arith)) (λ e. rw e (omega arith))) s)
 
 -- a walk is at slot i, and has counted n that are held
 pub record Counted (s : List ℕ) (n i : ℕ) : Type 0 where

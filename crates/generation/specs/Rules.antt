@@ -1,13 +1,11 @@
 -- The model's rules on one generation, as the functions of this crate name them.
-use Rattle.std.specs.Prelude.{ℕ, max, Bool, cond, ◌&&◌, eqb, leb}
-use Rattle.std.proofs.Math.Option.{Option, none, some}
+use Rattle.std.specs.Prelude.{ℕ, max, Bool, cond, ◌&&◌, Option, Some, None, eqb, leb}
+use Rattle.std.proofs.Math.Option.{Option as Floor, none, some}
 use Rattle.model.specs.declared.Room.{Room}
 use Rattle.model.specs.declared.Room.TheVariants.{At, Collides, Full}
 use Rattle.model.specs.Generation.{Generation, oldest_with, held, among, put, slots_for, grown, dropped}
 use Rattle.model.specs.Register.{passed}
 use Rattle.model.specs.Judge.{collides}
-use Rattle.generation.specs.declared.Dropped.{Dropped}
-use Rattle.generation.specs.declared.Dropped.TheVariants.{Nothing, Newest}
 
 -- what a ring's `holds` asks of the generation at the bucket's position
 abbrev pub holds_in : ℕ → ℕ → Generation → Bool
@@ -25,24 +23,24 @@ abbrev pub entered : ℕ → ℕ → ℕ → Generation → Generation
 entered b fp stamp g = record { bucket = b; oldest = oldest_with stamp g; newest = max g.newest stamp; slots = put g.slots fp }
 
 -- a drop answers the newest that went
-abbrev pub drop_says : Generation → Dropped
-drop_says g = cond (eqb (held g) 0) Nothing (Newest g.newest)
+abbrev pub drop_says : Generation → Option ℕ
+drop_says g = cond (eqb (held g) 0) None (Some g.newest)
 
 -- what a ring's `drop_bucket` does to the generation at the bucket's position
 abbrev pub dropped_in : ℕ → Generation → Generation
 dropped_in b g = cond (eqb g.bucket b) (dropped g) g
 
-abbrev pub drop_in_says : ℕ → Generation → Dropped
-drop_in_says b g = cond (eqb g.bucket b) (drop_says g) Nothing
+abbrev pub drop_in_says : ℕ → Generation → Option ℕ
+drop_in_says b g = cond (eqb g.bucket b) (drop_says g) None
 
 -- one position of a sweep: what is passed is dropped
 abbrev pub swept_at : ℕ → Generation → Generation
 swept_at through g = cond (passed through g) (dropped g) g
 
-abbrev pub sweep_says : ℕ → Generation → Dropped
-sweep_says through g = cond (passed through g) (Newest g.newest) Nothing
+abbrev pub sweep_says : ℕ → Generation → Option ℕ
+sweep_says through g = cond (passed through g) (Some g.newest) None
 
--- what went, as a floor that it raises
-abbrev pub went : Option ℕ → Dropped
-went none = Nothing
-went (some newest) = Newest newest
+-- a floor of the rules as the code's Option has it: what went is the floor that it raises from none
+abbrev pub went : Floor ℕ → Option ℕ
+went none = None
+went (some newest) = Some newest

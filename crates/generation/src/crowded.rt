@@ -7,7 +7,6 @@ ghost use Rattle.model.specs.GenerationWords.{slots_sound};
 ghost use Rattle.generation.specs.Reach.{passed_to, Run, unbroken};
 
 use crate::slots::first_slot;
-use crate::sound::one_if_held;
 
 // How many slots probing for a fingerprint passes before it comes to slot i of n, where it lies: for an empty slot none.
 fn passed_to(n: usize, i: usize, word: u64) -> usize
@@ -18,10 +17,7 @@ fn passed_to(n: usize, i: usize, word: u64) -> usize
         return 0;
     }
     let first = first_slot(word, n);
-    if first <= i {
-        return i - first;
-    }
-    i + n - first
+    if first <= i { i - first } else { i + n - first }
 }
 
 // The length of the run of held slots that ends with this slot, where one of that length ended before it.
@@ -29,10 +25,7 @@ fn run_with(run: usize, word: u64) -> usize
     requires { run ≤ 2048 }
     ensures { result ≡ cond (eqb word 0) 0 (run + 1) }
 {
-    if word == 0 {
-        return 0;
-    }
-    run + 1
+    if word == 0 { 0 } else { run + 1 }
 }
 
 // How many of the last slots are held, one after the other.
@@ -41,10 +34,8 @@ fn run_at_end(slots: &[u64]) -> usize
     ensures { Run slots.now 0 result (length slots.now) }
 {
     let mut run = 0;
-    let mut i = 0;
-    while i < slots.len() {
-        run = run_with(run, slots[i]);
-        i += 1;
+    for word in slots {
+        run = run_with(run, *word);
     }
     run
 }
@@ -57,13 +48,10 @@ fn no_gaps(slots: &[u64]) -> bool
     let n = slots.len();
     let mut run = run_at_end(slots);
     let mut all = true;
-    let mut i = 0;
-    while i < n {
-        let word = slots[i];
-        let passed = passed_to(n, i, word);
-        all = all & (passed <= run);
-        run = run_with(run, word);
-        i += 1;
+    for (i, word) in slots.iter().enumerate() {
+        let passed = passed_to(n, i, *word);
+        all &= passed <= run;
+        run = run_with(run, *word);
     }
     all
 }
@@ -72,14 +60,7 @@ fn no_gaps(slots: &[u64]) -> bool
 fn held_in(slots: &[u64]) -> u64
     ensures { result ≡ count slots.now }
 {
-    let mut n = 0u64;
-    let mut i = 0;
-    while i < slots.len() {
-        let one = one_if_held(slots[i]);
-        n += one;
-        i += 1;
-    }
-    n
+    slots.iter().filter(|word| **word != 0).count() as u64
 }
 
 // Every slot is reached, and as many are held as the generation says.

@@ -11,7 +11,7 @@ ghost use Rattle.generation.specs.Words.{Bounded, Roomy, Leads, led_by, opened, 
 
 use crate::slots::{put, regrow, slots_for};
 use model::{Bucket, Probe, Room};
-use numbers::{capped, layout};
+use numbers::layout;
 
 mod crowded;
 mod slots;
@@ -32,13 +32,6 @@ pub struct Generation {
     pub bucket: u64,
     // The oldest stamp that was inserted.
     pub oldest: u64,
-}
-
-// What a generation forgets as it is dropped: nothing, or all up to the newest stamp that it held.
-#[derive(Clone, Copy)]
-pub enum Dropped {
-    Nothing,
-    Newest(u64),
 }
 
 impl Generation {
@@ -91,11 +84,13 @@ impl Generation {
         requires { generation_head ≤ length part.old }
         ensures { part.new ≡ led_by self part.old }
     {
-        part[Generation::SLOTS] = self.slots;
-        part[Generation::HELD] = self.held;
-        part[Generation::NEWEST] = self.newest;
-        part[Generation::BUCKET] = self.bucket;
-        part[Generation::OLDEST] = self.oldest;
+        part[..Generation::HEAD].copy_from_slice(&[
+            self.slots,
+            self.held,
+            self.newest,
+            self.bucket,
+            self.oldest,
+        ]);
     }
 }
 
@@ -104,14 +99,8 @@ pub fn contains(part: &[u64], fp: u64) -> bool
     requires { (0 < fp) × Bounded part.now }
     ensures { GenerationReads (λ S g. among fp g.slots) part.now result }
 {
-    let n = part[Generation::SLOTS] as usize;
-    let e = n + Generation::HEAD;
-    let p = find(&part[Generation::HEAD..e], fp);
-    match p {
-        Probe::Held(_) => true,
-        Probe::Free(_) => false,
-        Probe::Nowhere => false,
-    }
+    let end = part[Generation::SLOTS] as usize + Generation::HEAD;
+    matches!(find(&part[Generation::HEAD..end], fp), Probe::Held(_))
 }
 
 // Whether it holds a fingerprint, and is of a bucket.
@@ -119,10 +108,7 @@ pub fn contains_in(part: &[u64], bucket: Bucket, fp: u64) -> bool
     requires { (0 < fp) × Bounded part.now }
     ensures { GenerationReads (λ S. holds_in bucket.0 fp) part.now result }
 {
-    if part[Generation::BUCKET] != bucket.0 {
-        return false;
-    }
-    contains(part, fp)
+    part[Generation::BUCKET] == bucket.0 && contains(part, fp)
 }
 
 // The room for one more fingerprint of a bucket in the generation at position `at`: that position, or what stands against it.
@@ -137,9 +123,10 @@ pub fn room(part: &[u64], at: usize, bucket: Bucket, known: bool) -> Room
     }
     let wanted = slots_for(known, part[Generation::SLOTS], part[Generation::HELD]);
     if wanted <= most {
-        return Room::At(at);
+        Room::At(at)
+    } else {
+        Room::Full
     }
-    Room::Full
 }
 
 // A generation's slots grow as one more fingerprint asks. `known`: it is held already.
@@ -158,9 +145,10 @@ fn oldest_with(head: Generation, stamp: u64) -> u64
     ensures { result ≡ cond (eqb head.held 0) stamp (min head.oldest stamp) }
 {
     if head.held == 0 {
-        return stamp;
+        stamp
+    } else {
+        head.oldest.min(stamp)
     }
-    capped::smaller(head.oldest, stamp)
 }
 
 // A fingerprint is entered under its bucket and its stamp.
@@ -169,17 +157,14 @@ fn enter(part: &mut [u64], bucket: Bucket, fp: u64, stamp: u64)
     ensures { FittingTurns (entered bucket.0 fp stamp) silent part.old part.new (tt {0}) }
 {
     let head = Generation::of(part);
-    let n = head.slots as usize;
-    let e = n + Generation::HEAD;
-    let added = put(&mut part[Generation::HEAD..e], fp);
-    let newest = capped::larger(head.newest, stamp);
-    let oldest = oldest_with(head, stamp);
+    let end = head.slots as usize + Generation::HEAD;
+    let added = put(&mut part[Generation::HEAD..end], fp);
     let next = Generation {
         slots: head.slots,
         held: head.held + added,
-        newest: newest,
+        newest: head.newest.max(stamp),
         bucket: bucket.0,
-        oldest: oldest,
+        oldest: oldest_with(head, stamp),
     };
     next.lead(part);
 }
@@ -193,53 +178,59 @@ pub fn insert(part: &mut [u64], known: bool, bucket: Bucket, fp: u64, stamp: u64
     enter(part, bucket, fp, stamp);
 }
 
-// A generation is dropped: it holds nothing, and its bucket word stays. Answers the newest that went.
-pub fn drop_all(part: &mut [u64]) -> Dropped
+// A generation is dropped: it holds nothing, and its bucket word stays. Answers the newest stamp that went, if any did.
+pub fn drop_all(part: &mut [u64]) -> Option<u64>
     requires { Bounded part.old }
     ensures { GenerationTurns dropped drop_says part.old part.new result }
 {
     let head = Generation::of(part);
     if head.held == 0 {
-        return Dropped::Nothing;
+        return None;
     }
-    let e = (head.slots as usize) + Generation::HEAD;
-    runs::clear_words(&mut part[Generation::HEAD..e]);
-    let mut next = Generation::open();
-    next.bucket = head.bucket;
+    let end = head.slots as usize + Generation::HEAD;
+    part[Generation::HEAD..end].fill(0);
+    let next = Generation {
+        bucket: head.bucket,
+        ..Generation::open()
+    };
     next.lead(part);
-    Dropped::Newest(head.newest)
+    Some(head.newest)
 }
 
 // The same, if it is of a bucket.
-pub fn drop_in(part: &mut [u64], bucket: Bucket) -> Dropped
+pub fn drop_in(part: &mut [u64], bucket: Bucket) -> Option<u64>
     requires { Bounded part.old }
     ensures { GenerationTurns (dropped_in bucket.0) (drop_in_says bucket.0) part.old part.new result }
 {
     if part[Generation::BUCKET] == bucket.0 {
-        return drop_all(part);
+        drop_all(part)
+    } else {
+        None
     }
-    Dropped::Nothing
 }
 
-// One position of a sweep: a held generation of a bucket before `through` is dropped. Answers the newest that went.
-pub fn sweep_one(part: &mut [u64], through: Bucket) -> Dropped
+// One position of a sweep: a held generation of a bucket before `through` is dropped. Answers the newest that went. It differs from
+// `drop_in` in one test, which a parameter would only move to the callers.
+pub fn sweep_one(part: &mut [u64], through: Bucket) -> Option<u64>
     requires { Bounded part.old }
     ensures { GenerationTurns (swept_at through.0) (sweep_says through.0) part.old part.new result }
 {
     if part[Generation::BUCKET] < through.0 {
-        return drop_all(part);
+        drop_all(part)
+    } else {
+        None
     }
-    Dropped::Nothing
 }
 
 // The same with nothing dropped: the newest that would go.
-pub fn newest_passed(part: &[u64], through: Bucket) -> Dropped
+pub fn newest_passed(part: &[u64], through: Bucket) -> Option<u64>
     requires { generation_head ≤ length part.now }
     ensures { GenerationReads (λ S. sweep_says through.0) part.now result }
 {
     let head = Generation::of(part);
     if (head.bucket < through.0) & (head.held != 0) {
-        return Dropped::Newest(head.newest);
+        Some(head.newest)
+    } else {
+        None
     }
-    Dropped::Nothing
 }

@@ -6,7 +6,6 @@ ghost use Rattle.generation.specs.Slots.{slots_after, put_again, Puts};
 
 use crate::Generation;
 use model::Probe;
-use numbers::capped;
 
 // The slot that probing starts at, the remainder, where slots are a power of two: a mask and no division.
 pub fn masked_slot(fp: u64, n: usize) -> usize
@@ -25,9 +24,10 @@ pub fn first_slot(fp: u64, n: usize) -> usize
     let slots = n as u64;
     let last = slots - 1;
     if slots & last == 0 {
-        return masked_slot(fp, n);
+        masked_slot(fp, n)
+    } else {
+        (fp % slots) as usize
     }
-    (fp % slots) as usize
 }
 
 // The slot after i, round the end.
@@ -35,11 +35,7 @@ pub fn next_slot(i: usize, n: usize) -> usize
     requires { i < n }
     ensures { result ≡ next n i }
 {
-    let j = i + 1;
-    if j == n {
-        return 0;
-    }
-    j
+    if i + 1 == n { 0 } else { i + 1 }
 }
 
 // Where probing for a fingerprint ends.
@@ -51,8 +47,7 @@ pub fn find(slots: &[u64], fp: u64) -> Probe
         return Probe::Nowhere;
     }
     let mut i = first_slot(fp, n);
-    let mut left = n;
-    while 0 < left {
+    for _ in 0..n {
         let word = slots[i];
         if word == fp {
             return Probe::Held(i);
@@ -61,7 +56,6 @@ pub fn find(slots: &[u64], fp: u64) -> Probe
             return Probe::Free(i);
         }
         i = next_slot(i, n);
-        left -= 1;
     }
     Probe::Nowhere
 }
@@ -71,14 +65,11 @@ pub fn put(slots: &mut [u64], fp: u64) -> u64
     requires { 0 < fp }
     ensures { Puts fp slots.old slots.new result }
 {
-    let p = find(slots, fp);
-    match p {
-        Probe::Held(_) => 0,
-        Probe::Nowhere => 0,
-        Probe::Free(i) => {
-            slots[i] = fp;
-            1
-        }
+    if let Probe::Free(i) = find(slots, fp) {
+        slots[i] = fp;
+        1
+    } else {
+        0
     }
 }
 
@@ -86,21 +77,17 @@ pub fn put(slots: &mut [u64], fp: u64) -> u64
 fn put_again(slots: &mut [u64], word: u64)
     ensures { slots.new ≡ put_again slots.old word }
 {
-    if word == 0 {
-        return;
+    if word != 0 {
+        put(slots, word);
     }
-    put(slots, word);
 }
 
 // Puts what old slots hold into new ones, in the old order.
 fn refill_from(slots: &mut [u64], old: &[u64])
     ensures { slots.new ≡ refill old.now slots.old }
 {
-    let mut i = 0;
-    while i < old.len() {
-        let word = old[i];
-        put_again(slots, word);
-        i += 1;
+    for word in old {
+        put_again(slots, *word);
     }
 }
 
@@ -108,7 +95,7 @@ fn refill_from(slots: &mut [u64], old: &[u64])
 fn rebuild(slots: &mut [u64], old: &[u64])
     ensures { slots.new ≡ refill old.now (replicate (length slots.old) 0) }
 {
-    runs::clear_words(slots);
+    slots.fill(0);
     refill_from(slots, old);
 }
 
@@ -118,38 +105,17 @@ fn rebuild_through(slots: &mut [u64], old: &mut [u64], n: usize, wanted: usize)
     ensures slots_after { slots.new ≡ refill (take n slots.old) (replicate wanted 0) ++ drop wanted slots.old }
     ensures after { old.new ≡ take n slots.old ++ drop n old.old }
 {
-    runs::copy_words(&mut old[0..n], &slots[0..n]);
-    rebuild(&mut slots[0..wanted], &old[0..n]);
+    old[..n].copy_from_slice(&slots[..n]);
+    rebuild(&mut slots[..wanted], &old[..n]);
 }
 
-// Room for few slots, and for the most that a generation can have. It is filled with zeros each time, so few is cheaper.
-fn scratch_few() -> [u64; 64]
-    ensures { result ≡ replicate 64 0 }
-{
-    [0u64; 64]
-}
-
-fn scratch_most() -> [u64; 1024]
-    ensures { result ≡ replicate 1024 0 }
-{
-    [0u64; 1024]
-}
-
-// The first n slots become `wanted`, through room for few.
-fn rebuild_few(slots: &mut [u64], n: usize, wanted: usize)
-    requires { ((n ≤ wanted) × (wanted ≤ length slots.old)) × (n ≤ 64) }
+// The same, with room of its own for at most N old slots: a fixed array, since nothing here allocates. It is filled with zeros each
+// time, so a small N is cheaper.
+fn rebuild_within<const N: usize>(slots: &mut [u64], n: usize, wanted: usize)
+    requires { ((n ≤ wanted) × (wanted ≤ length slots.old)) × ((n ≤ N) × (N ≤ 1024)) }
     ensures { slots.new ≡ refill (take n slots.old) (replicate wanted 0) ++ drop wanted slots.old }
 {
-    let mut old = scratch_few();
-    rebuild_through(slots, &mut old, n, wanted);
-}
-
-// The same, through room for the most.
-fn rebuild_most(slots: &mut [u64], n: usize, wanted: usize)
-    requires { ((n ≤ wanted) × (wanted ≤ length slots.old)) × (n ≤ 1024) }
-    ensures { slots.new ≡ refill (take n slots.old) (replicate wanted 0) ++ drop wanted slots.old }
-{
-    let mut old = scratch_most();
+    let mut old = [0u64; N];
     rebuild_through(slots, &mut old, n, wanted);
 }
 
@@ -162,10 +128,10 @@ pub fn regrow(slots: &mut [u64], n: usize, wanted: usize)
         return;
     }
     if n <= 64 {
-        rebuild_few(slots, n, wanted);
-        return;
+        rebuild_within::<64>(slots, n, wanted);
+    } else {
+        rebuild_within::<1024>(slots, n, wanted);
     }
-    rebuild_most(slots, n, wanted);
 }
 
 // The slots that there are once a new fingerprint is inserted: doubled from the present number until those held and it are at most
@@ -175,7 +141,8 @@ fn doubled_slots(slots: u64, held: u64) -> u64
     ensures { result ≡ slots_after false slots held }
 {
     let most = 4 * (held + 1);
-    let mut n = capped::larger(slots, Generation::LEAST);
+    // Doubling goes on from the present number, which need be no power of two: so no method for powers of two says this.
+    let mut n = slots.max(Generation::LEAST);
     while 3 * n < most {
         n = 2 * n;
     }
@@ -183,12 +150,14 @@ fn doubled_slots(slots: u64, held: u64) -> u64
 }
 
 // The slots that there are once a fingerprint is inserted. `known`: it is held already, and there are as many as before.
+#[tactic(auto, unfolding(crate::specs::Slots::slots_after))]
 pub fn slots_for(known: bool, slots: u64, held: u64) -> u64
     requires { (slots ≤ 1024) × (held ≤ 1024) }
     ensures { result ≡ slots_after known slots held }
 {
     if known {
-        return slots;
+        slots
+    } else {
+        doubled_slots(slots, held)
     }
-    doubled_slots(slots, held)
 }

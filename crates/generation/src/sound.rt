@@ -1,5 +1,5 @@
 // The soundness test of one generation's words, whatever they are.
-ghost use Rattle.std.specs.Prelude.{◌≡◌, cond, suc, ◌-◌, ◌≤◌, ◌<◌, eqb, length, get_or};
+ghost use Rattle.std.specs.Prelude.{◌≡◌, cond, ◌-◌, ◌≤◌, ◌<◌, eqb, length, get_or};
 ghost use Rattle.std.specs.Int.Bits.{bit_and};
 ghost use Rattle.model.specs.Widths.{generation_head};
 ghost use Rattle.model.specs.GenerationWords.{slots_sound, filled_sound, generation_sound};
@@ -8,50 +8,42 @@ ghost use Rattle.generation.specs.Reach.{near};
 
 use crate::slots::{masked_slot, next_slot};
 use crate::{Generation, crowded};
-use numbers::{bounds, capped};
+use numbers::bounds;
 
 // 1 for a number that is not 0, as of a slot that is held or of how many a generation holds, else 0.
 pub fn one_if_held(word: u64) -> u64
     ensures { result ≡ cond (eqb word 0) 0 1 }
 {
-    if word == 0 {
-        return 0;
-    }
-    1
+    u64::from(word != 0)
 }
 
-// Slot i, whose word this is, is empty, or probing for its fingerprint ends there within a step and so many further ones. Slots are
-// compared by their numbers: most fingerprints lie where probing for them starts, and are known to without a look at another slot.
-fn is_near(slots: &[u64], i: usize, word: u64, further: usize) -> bool
+// Slot i, whose word this is, is empty, or probing for its fingerprint ends there within so many steps. Slots are compared by their
+// numbers: most fingerprints lie where probing for them starts, and are known to without a look at another slot.
+fn is_near(slots: &[u64], i: usize, word: u64, steps: usize) -> bool
     requires { (i < length slots.now) × ((word ≡ get_or slots.now i 0) × (bit_and (length slots.now) (length slots.now - 1) ≡ 0)) }
-    ensures { result ≡ near slots.now i word (suc further) }
+    ensures { result ≡ near slots.now i word steps }
 {
     if word == 0 {
         return true;
     }
     let n = slots.len();
     let mut j = masked_slot(word, n);
-    let mut left = further;
-    while j != i {
-        if left == 0 {
-            return false;
+    for _ in 0..steps {
+        if j == i {
+            return true;
         }
         let other = slots[j];
-        if other == word {
-            return false;
-        }
-        if other == 0 {
+        if (other == word) | (other == 0) {
             return false;
         }
         j = next_slot(j, n);
-        left -= 1;
     }
-    true
+    false
 }
 
-// The steps that probing for one fingerprint may take after the first. With hashes they are nearly always enough: of generations
-// that hold three quarters of 1,024 slots one or two in a thousand have a fingerprint that lies further on.
-const FURTHER: u64 = 127;
+// The steps that probing for one fingerprint may take. With hashes they are nearly always enough: of generations that hold three
+// quarters of 1,024 slots one or two in a thousand have a fingerprint that lies further on.
+const STEPS: usize = 128;
 
 // Every slot is reached, and as many are held as the generation says. Probing shows it where each slot is near. Where one is not,
 // as with fingerprints that were chosen to start at one slot, all slots are tested in another way: to follow the probing for each
@@ -66,17 +58,13 @@ fn slots_sound(slots: &[u64], held: u64) -> bool
     if size & last != 0 {
         return crowded::slots_sound(slots, held);
     }
-    let further = capped::smaller(last, FURTHER) as usize;
+    let steps = slots.len().min(STEPS);
     let mut n = 0u64;
-    let mut i = 0;
-    while i < slots.len() {
-        let word = slots[i];
-        if !is_near(slots, i, word, further) {
+    for (i, word) in slots.iter().enumerate() {
+        if !is_near(slots, i, *word, steps) {
             return crowded::slots_sound(slots, held);
         }
-        let one = one_if_held(word);
-        n += one;
-        i += 1;
+        n += one_if_held(*word);
     }
     n == held
 }
@@ -100,8 +88,8 @@ pub fn is_sound(part: &[u64], ring: u64, at: u64) -> bool
     if most < n {
         return false;
     }
-    let e = (n as usize) + Generation::HEAD;
-    if !runs::zeros_only(&part[e..]) {
+    let end = n as usize + Generation::HEAD;
+    if !runs::zeros_only(&part[end..]) {
         return false;
     }
     if part[Generation::NEWEST] < part[Generation::OLDEST] {
@@ -114,5 +102,5 @@ pub fn is_sound(part: &[u64], ring: u64, at: u64) -> bool
     if !filled_sound(ring, at, n, held, part[Generation::BUCKET]) {
         return false;
     }
-    slots_sound(&part[Generation::HEAD..e], held)
+    slots_sound(&part[Generation::HEAD..end], held)
 }

@@ -6,7 +6,6 @@
 
 ghost use Rattle.std.specs.Prelude.{◌<◌};
 
-use generation::Dropped;
 use model::{Bucket, Room};
 use numbers::layout;
 use std::io;
@@ -24,10 +23,8 @@ fn print(rt: &impl Print, n: u64, end: u8) -> io::Result<()> {
 // The answer's code, then the words.
 fn show(rt: &impl Print, says: u64, part: &[u64]) -> io::Result<()> {
     print(rt, says, b':')?;
-    let mut i = 0;
-    while i < part.len() {
-        print(rt, part[i], b' ')?;
-        i += 1;
+    for word in part {
+        print(rt, *word, b' ')?;
     }
     rt.write_all(&[b'\n'])
 }
@@ -43,8 +40,7 @@ fn strike(part: &mut [u64], bucket: Bucket, fp: u64, stamp: u64) -> u64
         return 0;
     }
     let known = generation::contains(part, fp);
-    let room = generation::room(part, 0, bucket, known);
-    match room {
+    match generation::room(part, 0, bucket, known) {
         Room::Collides => 2,
         Room::Full => 3,
         Room::At(_) => {
@@ -54,7 +50,7 @@ fn strike(part: &mut [u64], bucket: Bucket, fp: u64, stamp: u64) -> u64
     }
 }
 
-// Drops the generation if a sweep passes it: 0 where it did not, else one more than the newest that went.
+// Drops the generation if a sweep passes it: 0 where it did not, else the newest that went.
 fn sweep(part: &mut [u64], through: Bucket) -> u64 {
     if part.len() != FEW {
         return 0;
@@ -62,11 +58,7 @@ fn sweep(part: &mut [u64], through: Bucket) -> u64 {
     if !generation::is_sound(part, 24, 0) {
         return 0;
     }
-    let went = generation::sweep_one(part, through);
-    match went {
-        Dropped::Nothing => 0,
-        Dropped::Newest(stamp) => stamp,
-    }
+    generation::sweep_one(part, through).unwrap_or(0)
 }
 
 // 128 slots of bucket 120. The 95 from `first` on, round the end, are held, and probing for each fingerprint starts at `first`.
@@ -77,21 +69,16 @@ fn crowd(first: usize) -> [u64; MANY]
     part[0] = 128;
     part[2] = 100;
     part[3] = 120;
-    let mut k = 0;
-    while k < 95 {
+    for k in 0..95 {
         let at = (first + k) % 128 + layout::GENERATION_HEAD;
         part[at] = ((k + 1) * 128 + first) as u64;
-        k += 1;
     }
     part
 }
 
 // 1 where they are sound, and else 0.
 fn sound(part: &[u64; MANY]) -> u64 {
-    if generation::is_sound(part, 24, 0) {
-        return 1;
-    }
-    0
+    u64::from(generation::is_sound(part, 24, 0))
 }
 
 // Prints whether they are sound with one slot changed and so many said to be held.

@@ -4,7 +4,7 @@ use mathlib.Core.Path.{◌≡◌, refl, ap, sym, ◌∙◌, subst}
 use mathlib.Core.List.{List, ◌++◌}
 use mathlib.Core.Option.{some}
 use lib.ListN.{length}
-use Rattle.model.specs.declared.Answer.TheVariants.{Whole}
+use Rattle.model.specs.Answer.{Whole}
 use Rattle.model.specs.declared.Settings.{Settings}
 use Rattle.model.specs.Settings.{settings_of}
 use Rattle.model.specs.Words.{State}

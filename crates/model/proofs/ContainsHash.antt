@@ -9,8 +9,8 @@ use lib.Dec.{eqb}
 use lib.ListN.{length, get_or}
 use borrow.Author.Tests.{eqb-true, eq-eqb}
 use Rattle.model.specs.declared.Class.TheVariants.{Feeders, Peers, Own}
-use Rattle.model.specs.declared.Answer.{Answer}
-use Rattle.model.specs.declared.Answer.TheVariants.{Yes, No}
+use Rattle.model.specs.Answer.{Answer}
+use Rattle.model.specs.Answer.{Yes, No}
 use Rattle.runs.proofs.Cases.{no}
 use Rattle.model.specs.Settings.{settings_of}
 use Rattle.model.specs.Generation.{empty, among, as_read}

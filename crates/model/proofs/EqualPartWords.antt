@@ -8,7 +8,7 @@ use Prim.Native.Nat.{ℕ, ◌≤◌}
 use lib.Dec.{eqb}
 use lib.ListN.{length}
 use borrow.Author.Tests.{eqb-true}
-use Rattle.model.specs.declared.Answer.TheVariants.{Refused, Said}
+use Rattle.model.specs.Answer.{Refused, Said}
 use Rattle.model.specs.declared.Verdict.TheVariants.{New}
 use Rattle.model.specs.declared.Settings.{Settings}
 use Rattle.model.specs.declared.Shares.{Shares}

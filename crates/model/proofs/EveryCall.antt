@@ -7,8 +7,8 @@ use lib.Dec.{leb, eqb}
 use lib.ListN.{get_or, set}
 use lib.Seq.{get_or-set_other}
 use borrow.Author.Tests.{eqb-false, leb-false}
-use Rattle.model.specs.declared.Answer.{Answer}
-use Rattle.model.specs.declared.Answer.TheVariants.{Begun, Already}
+use Rattle.model.specs.Answer.{Answer}
+use Rattle.model.specs.Answer.{Begun, Already}
 use Rattle.model.specs.declared.Settings.{Settings}
 use Rattle.runs.proofs.Cases.{split_if, no}
 use Rattle.model.specs.Settings.{limits_of, usable_at}

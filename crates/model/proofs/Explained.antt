@@ -2,7 +2,7 @@
 use Prim.Native.Nat.{ℕ}
 use mathlib.Core.Path.{◌≡◌, refl, sym, ◌∙◌, ap}
 use mathlib.Core.List.{List}
-use Rattle.model.specs.declared.Answer.TheVariants.{Said, Because}
+use Rattle.model.specs.Answer.{Said, Because}
 use Rattle.model.specs.declared.Reason.{Reason}
 use Rattle.model.specs.declared.Reason.TheVariants.{Accepted}
 use Rattle.model.specs.declared.Settings.{Settings}

@@ -10,7 +10,7 @@ use lib.Dec.{eqb}
 use lib.ListN.{length}
 use lib.Seq.{get_or-set_same}
 use borrow.Author.Tests.{eqb-true, leb-false, lt-leb, le-ltb}
-use Rattle.model.specs.declared.Answer.TheVariants.{Refused, FloorAt}
+use Rattle.model.specs.Answer.{Refused, FloorAt}
 use Rattle.model.specs.declared.Settings.{Settings}
 use Rattle.runs.proofs.Cases.{by_test, no}
 use Rattle.model.specs.Settings.{settings_of, usable_at, words_needed}

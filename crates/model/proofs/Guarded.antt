@@ -11,7 +11,7 @@ use borrow.Author.Tests.{eqb-true, eqb-false}
 use Rattle.model.specs.declared.Settings.{Settings}
 use Rattle.model.specs.declared.Verdict.{Verdict}
 use Rattle.model.specs.declared.Verdict.TheVariants.{New}
-use Rattle.model.specs.declared.Answer.TheVariants.{Said}
+use Rattle.model.specs.Answer.{Said}
 use Rattle.runs.proofs.Cases.{by_test}
 use Rattle.model.specs.Settings.{usable_at, settings_fit}
 use Rattle.model.specs.Generation.{as_read}

@@ -9,7 +9,7 @@ use lib.ListN.{get_or}
 use borrow.Author.Tests.{not-true}
 use Rattle.model.specs.declared.Settings.{Settings}
 use Rattle.model.specs.declared.Verdict.TheVariants.{New}
-use Rattle.model.specs.declared.Answer.TheVariants.{Said}
+use Rattle.model.specs.Answer.{Said}
 use Rattle.runs.proofs.Cases.{both_true, no}
 use Rattle.model.specs.Settings.{usable_at, settings_fit}
 use Rattle.model.specs.Register.{Register}

@@ -1,3 +1,4 @@
+pub mod Refused
 pub mod Probing
 pub mod Growth
 pub mod GenerationWords

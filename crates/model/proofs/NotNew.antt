@@ -7,7 +7,7 @@ use lib.ListN.{drop}
 use borrow.Author.Tests.{eqb-true}
 use Rattle.model.specs.declared.Settings.{Settings}
 use Rattle.model.specs.declared.Verdict.TheVariants.{New}
-use Rattle.model.specs.declared.Answer.TheVariants.{Said}
+use Rattle.model.specs.Answer.{Said}
 use Rattle.runs.proofs.Cases.{by_test}
 use Rattle.model.specs.Settings.{settings_of, usable_at, words_needed}
 use Rattle.model.specs.Book.{Book}

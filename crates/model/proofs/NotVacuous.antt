@@ -8,7 +8,7 @@ use lib.Dec.{lit≤}
 use lib.ListN.{replicate}
 use Rattle.model.specs.declared.Class.TheVariants.{Feeders}
 use Rattle.model.specs.declared.Verdict.TheVariants.{New, Duplicate, Late}
-use Rattle.model.specs.declared.Answer.TheVariants.{Refused, Done, Said, Whole, Partly}
+use Rattle.model.specs.Answer.{Refused, Done, Said, Whole, Partly}
 use Rattle.runs.specs.Words.{zeros, same_words, pad}
 use Rattle.runs.specs.Chunks.{flat}
 use Rattle.runs.specs.Combine.{wide_row, enc_row, read_row, test_row, enc_up, read_up, test_up}

@@ -9,8 +9,8 @@ use lib.ListN.{length}
 use borrow.Author.Tests.{eqb-true}
 use Rattle.model.specs.declared.Settings.{Settings}
 use Rattle.model.specs.declared.Verdict.TheVariants.{New}
-use Rattle.model.specs.declared.Answer.{Answer}
-use Rattle.model.specs.declared.Answer.TheVariants.{Refused, Said}
+use Rattle.model.specs.Answer.{Answer}
+use Rattle.model.specs.Answer.{Refused, Said}
 use Rattle.runs.proofs.Cases.{by_test, no}
 use Rattle.model.specs.Settings.{settings_of, usable_at, words_needed}
 use Rattle.model.specs.Register.{Register}

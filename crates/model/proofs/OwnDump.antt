@@ -9,7 +9,7 @@ use lib.Dec.{eqb}
 use lib.ListN.{length, get_or}
 use lib.Seq.{get_or-set_same, set-get_or}
 use borrow.Author.Tests.{eqb-false, eq-eqb, ne_eqb, leb-false}
-use Rattle.model.specs.declared.Answer.TheVariants.{Whole, Partly}
+use Rattle.model.specs.Answer.{Whole, Partly}
 use Rattle.model.specs.declared.Class.{Class}
 use Rattle.model.specs.declared.Class.TheVariants.{Feeders, Peers, Own}
 use Rattle.model.specs.declared.Deliverer.TheVariants.{Restored}

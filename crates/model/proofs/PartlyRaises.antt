@@ -9,7 +9,7 @@ use mathlib.Core.Option.{Option, none, some}
 use lib.Dec.{eqb}
 use lib.Seq.{get_or-set_same}
 use borrow.Author.Tests.{eqb-false, eq-eqb, leb-false}
-use Rattle.model.specs.declared.Answer.TheVariants.{Whole, Partly}
+use Rattle.model.specs.Answer.{Whole, Partly}
 use Rattle.model.specs.declared.Class.{Class}
 use Rattle.model.specs.declared.Class.TheVariants.{Feeders, Peers, Own}
 use Rattle.model.specs.declared.Settings.{Settings}

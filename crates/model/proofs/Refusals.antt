@@ -6,8 +6,8 @@ use mathlib.Core.Bool.{Bool, true, false, not, ◌&&◌}
 use mathlib.Core.List.{List, [], ◌∷◌}
 use lib.Dec.{eqb}
 use borrow.Author.Tests.{eqb-true, eqb-false, ne_eqb, not-true}
-use Rattle.model.specs.declared.Answer.{Answer}
-use Rattle.model.specs.declared.Answer.TheVariants.{Refused}
+use Rattle.model.specs.Answer.{Answer}
+use Rattle.model.specs.Answer.{Refused}
 use Rattle.model.specs.declared.Settings.{Settings}
 use Rattle.runs.proofs.Cases.{by_test, both_true, no}
 use Rattle.model.specs.Settings.{settings_of}

@@ -9,7 +9,7 @@ use lib.Dec.{eqb}
 use lib.ListN.{length, drop}
 use lib.Seq.{take_at, get_or-set_same}
 use borrow.Author.Tests.{eqb-true, leb-false, lt-leb, le-ltb}
-use Rattle.model.specs.declared.Answer.TheVariants.{Refused, Dumped, Whole}
+use Rattle.model.specs.Answer.{Refused, Dumped, Whole}
 use Rattle.model.specs.declared.Settings.{Settings}
 use Rattle.model.specs.declared.Usable.{Usable}
 use Rattle.model.specs.declared.Start.TheVariants.{Empty}

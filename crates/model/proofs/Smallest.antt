@@ -9,7 +9,7 @@ use mathlib.Core.Option.{Option, none, some}
 use lib.Dec.{eqb}
 use lib.ListN.{length, length-append}
 use borrow.Author.Tests.{eqb-true, eq-eqb, leb-false}
-use Rattle.model.specs.declared.Answer.TheVariants.{Refused, Said, NoStamp, StampAt}
+use Rattle.model.specs.Answer.{Refused, Said, NoStamp, StampAt}
 use Rattle.model.specs.declared.Settings.{Settings}
 use Rattle.model.specs.declared.Class.TheVariants.{Feeders, Peers, Own}
 use Rattle.model.specs.declared.Shares.{Shares}

@@ -7,7 +7,7 @@ use lib.ListN.{replicate}
 use Rattle.runs.specs.Chunks.{flat}
 use Rattle.model.specs.declared.Class.TheVariants.{Feeders}
 use Rattle.model.specs.declared.Verdict.TheVariants.{New, Duplicate, Late, Ahead, Full, Unjudged}
-use Rattle.model.specs.declared.Answer.TheVariants.{Refused, Done, Said, Yes, No, Begun, Already, Whole, Partly, NoFloor, FloorAt, Entries, Totals}
+use Rattle.model.specs.Answer.{Refused, Done, Said, Yes, No, Begun, Already, Whole, Partly, NoFloor, FloorAt, Entries, Totals}
 use Rattle.model.specs.Settings.{settings_of, usable_at}
 use Rattle.model.specs.Codes.{verdict_number, answer_number}
 use Rattle.model.specs.Book.{second_of}

@@ -11,9 +11,9 @@ use Rattle.model.specs.declared.Class.TheVariants.{Feeders, Peers, Own}
 use Rattle.model.specs.declared.Reason.{Reason}
 use Rattle.model.specs.declared.Verdict.{Verdict}
 use Rattle.model.specs.declared.Verdict.TheVariants.{New, Duplicate, Late, Ahead, Full, Unjudged}
-use Rattle.model.specs.declared.Answer.{Answer}
-use Rattle.model.specs.declared.Answer.TheVariants.{Refused, Done, Said, Yes, No, Begun, Already, Dumped, Viewed, Whole, Partly, NoFloor, FloorAt, SweptTo, Entries, Totals}
-use Rattle.model.specs.declared.Answer.TheVariants.{Because, NoStamp, StampAt}
+use Rattle.model.specs.Answer.{Answer}
+use Rattle.model.specs.Answer.{Refused, Done, Said, Yes, No, Begun, Already, Dumped, Viewed, Whole, Partly, NoFloor, FloorAt, SweptTo, Entries, Totals}
+use Rattle.model.specs.Answer.{Because, NoStamp, StampAt}
 use Rattle.runs.proofs.Cases.{by_test, no}
 use Rattle.model.specs.Settings.{settings_of}
 use Rattle.model.specs.Class.{class_number, class_at}

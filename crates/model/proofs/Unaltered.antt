@@ -8,7 +8,7 @@ use lib.Dec.{eqb}
 use lib.ListN.{drop}
 use lib.Seq.{set-get_or}
 use borrow.Author.Tests.{eqb-true}
-use Rattle.model.specs.declared.Answer.TheVariants.{Said, Begun, Already}
+use Rattle.model.specs.Answer.{Said, Begun, Already}
 use Rattle.model.specs.declared.Room.{Room}
 use Rattle.model.specs.declared.Room.TheVariants.{At, Collides, Full as NoSlots}
 use Rattle.model.specs.declared.Settings.{Settings}

@@ -7,8 +7,8 @@ use lib.Dec.{lit≤}
 use lib.ListN.{length, get_or, replicate}
 use borrow.Author.Tests.{le-ltb}
 use Rattle.runs.specs.Chunks.{flat}
-use Rattle.model.specs.declared.Answer.{Answer}
-use Rattle.model.specs.declared.Answer.TheVariants.{Done, Dumped}
+use Rattle.model.specs.Answer.{Answer}
+use Rattle.model.specs.Answer.{Done, Dumped}
 use Rattle.model.specs.Numbers.{compute_numbers}
 use Rattle.model.specs.Settings.{compute_settings, settings_of, words_needed}
 use Rattle.model.specs.Class.{compute_class}

@@ -3,7 +3,7 @@
 -- Otherwise it answers as judge does, and it always leaves the words that judge leaves.
 use Rattle.std.specs.Prelude.{ℕ, ◌+◌, ◌<◌, ◌≡◌, List}
 use Rattle.model.specs.declared.Verdict.TheVariants.{Late, Ahead}
-use Rattle.model.specs.declared.Answer.TheVariants.{Said}
+use Rattle.model.specs.Answer.{Said}
 use Rattle.model.specs.Settings.{settings_of, usable_at}
 use Rattle.model.specs.Class.{deliverer_of}
 use Rattle.model.specs.Judge.{window_for}

@@ -1,7 +1,7 @@
 -- "Begin: a Fallback start is pending until it raises the floor to the host's number ..; later begins answer Already."
 -- A begin that answers Already leaves every word as it was: of any words, settings, register and number.
 use Rattle.std.specs.Prelude.{ℕ, ◌≡◌, List}
-use Rattle.model.specs.declared.Answer.TheVariants.{Already}
+use Rattle.model.specs.Answer.{Already}
 use Rattle.model.specs.Calls.{Begin, On, reply, after}
 
 abbrev pub AlreadyLeaves : Type 0

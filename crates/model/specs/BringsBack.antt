@@ -9,7 +9,7 @@
 -- stamps, and the floor unless that is 2^64 − 1. Nothing is to be supplied but words, bytes, settings and calls.
 use Rattle.std.specs.Prelude.{ℕ, ◌*◌, ◌<◌, ◌≡◌, true, List, ◌++◌, length, get_or}
 use Rattle.std.proofs.Math.Option.{some}
-use Rattle.model.specs.declared.Answer.TheVariants.{Dumped, Whole}
+use Rattle.model.specs.Answer.{Dumped, Whole}
 use Rattle.model.specs.declared.Usable.{Usable}
 use Rattle.model.specs.Settings.{settings_of, usable_at}
 use Rattle.model.specs.Register.{Register}

@@ -7,9 +7,9 @@ use Rattle.model.specs.declared.Start.{Start}
 use Rattle.model.specs.declared.Start.TheVariants.{Empty, Fallback, At}
 use Rattle.model.specs.declared.Draw.{Draw}
 use Rattle.model.specs.declared.Draw.TheVariants.{Granted, Closed, OwnShare, ClassLimit, EqualPart, TwiceLimit, Places, Pairs}
-use Rattle.model.specs.declared.Answer.{Answer}
-use Rattle.model.specs.declared.Answer.TheVariants.{Refused, Done, Said, Yes, No, Begun, Already, Dumped, Viewed, Whole, Partly, NoFloor, FloorAt, SweptTo, Entries, Totals}
-use Rattle.model.specs.declared.Answer.TheVariants.{Because, NoStamp, StampAt}
+use Rattle.model.specs.Answer.{Answer}
+use Rattle.model.specs.Answer.{Refused, Done, Said, Yes, No, Begun, Already, Dumped, Viewed, Whole, Partly, NoFloor, FloorAt, SweptTo, Entries, Totals}
+use Rattle.model.specs.Answer.{Because, NoStamp, StampAt}
 use Rattle.model.specs.Class.{class_number}
 
 -- ---- codes that a call brings

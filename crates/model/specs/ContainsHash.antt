@@ -3,7 +3,7 @@
 -- words, settings and register.
 use Rattle.std.specs.Prelude.{ℕ, ◌<◌, ◌≡◌, true, List, ◌⊎◌, length, get_or}
 use Rattle.model.specs.declared.Class.{Class}
-use Rattle.model.specs.declared.Answer.TheVariants.{Yes, No}
+use Rattle.model.specs.Answer.{Yes, No}
 use Rattle.model.specs.Settings.{settings_of}
 use Rattle.model.specs.Class.{pick}
 use Rattle.model.specs.Generation.{empty, as_read}

@@ -2,7 +2,7 @@
 -- verdict." For settings, words, register and ticket of any content. "The tool alters nothing": explain is among the calls that only
 -- read (specs/ReadersLeave).
 use Rattle.std.specs.Prelude.{ℕ, ◌≡◌, List}
-use Rattle.model.specs.declared.Answer.TheVariants.{Said, Because}
+use Rattle.model.specs.Answer.{Said, Because}
 use Rattle.model.specs.declared.Reason.{Reason}
 use Rattle.model.specs.declared.Reason.TheVariants.{Accepted}
 use Rattle.model.specs.Settings.{settings_of, usable_at}

@@ -2,8 +2,8 @@
 -- For any words and any list of calls, at whatever readings: the floor that is told of a register never falls and never vanishes, up
 -- to an opening or a resume on that register that went through. Calls that are refused stand in the list like the others.
 use Rattle.std.specs.Prelude.{ℕ, ◌≤◌, ◌≡◌, Bool, true, false, ◌&&◌, ◌||◌, List, [], ◌∷◌, eqb}
-use Rattle.model.specs.declared.Answer.{Answer}
-use Rattle.model.specs.declared.Answer.TheVariants.{FloorAt}
+use Rattle.model.specs.Answer.{Answer}
+use Rattle.model.specs.Answer.{FloorAt}
 use Rattle.model.specs.Codes.{went_through}
 use Rattle.model.specs.Calls.{Sort, Asks, Takes, Restores, Resumes, Plain, Kind, Opens, OnOne, Sets, Other, Floor, On, kind, reply}
 use Rattle.model.specs.View.{Given, answered, left_by, words_after}

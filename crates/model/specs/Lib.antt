@@ -1,3 +1,6 @@
+pub mod Answer
+pub mod Listed
+pub mod Optional
 pub mod Numbers
 pub mod Widths
 pub mod Settings

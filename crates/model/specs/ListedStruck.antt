@@ -10,7 +10,7 @@ use Rattle.std.proofs.Math.Option.{some}
 use Rattle.model.specs.declared.Class.{Class}
 use Rattle.model.specs.declared.Usable.{Usable}
 use Rattle.model.specs.declared.Verdict.TheVariants.{New}
-use Rattle.model.specs.declared.Answer.TheVariants.{Said}
+use Rattle.model.specs.Answer.{Said}
 use Rattle.model.specs.Settings.{settings_of, usable_at}
 use Rattle.model.specs.Class.{pick}
 use Rattle.model.specs.Generation.{as_read}

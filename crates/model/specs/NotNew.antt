@@ -2,7 +2,7 @@
 -- Of any words, settings and register: a refused take is not New either, and then judge is refused too and neither alters anything.
 use Rattle.std.specs.Prelude.{ℕ, ◌≡◌, List}
 use Rattle.model.specs.declared.Verdict.TheVariants.{New}
-use Rattle.model.specs.declared.Answer.TheVariants.{Said}
+use Rattle.model.specs.Answer.{Said}
 use Rattle.model.specs.Calls.{Manner, judged, judged_batch, taken, taken_batch, Asking, Ticket, On, reply, after}
 
 -- the take of one manner answers other than New: then the judge of the other leaves the same words

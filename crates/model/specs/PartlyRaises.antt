@@ -4,8 +4,8 @@
 use Rattle.std.specs.Prelude.{ℕ, ◌≡◌, List}
 use Rattle.std.proofs.Math.Option.{some}
 use Rattle.model.specs.declared.Class.{Class}
-use Rattle.model.specs.declared.Answer.{Answer}
-use Rattle.model.specs.declared.Answer.TheVariants.{Partly}
+use Rattle.model.specs.Answer.{Answer}
+use Rattle.model.specs.Answer.{Partly}
 use Rattle.model.specs.Settings.{settings_of}
 use Rattle.model.specs.Class.{pick}
 use Rattle.model.specs.Generation.{Generation}

@@ -1,7 +1,7 @@
 -- "Tried in the order 1, 2, 3, 4, 6, 5, 7. Each returns its number alone, alters nothing, and comes only in its condition."
 -- "Numbers that requests add join demand 1's seven": 8 is tried after 4, and no call has both 8 and one of the others' own.
 use Rattle.std.specs.Prelude.{ℕ, ◌≡◌, Bool, true, false, cond, List, [], ◌∷◌, ◌⊎◌, eqb}
-use Rattle.model.specs.declared.Answer.TheVariants.{Refused}
+use Rattle.model.specs.Answer.{Refused}
 use Rattle.model.specs.First.{First, NoneMet}
 use Rattle.model.specs.Calls.{Call, Refusal, refusals, reply, after, output_of, output_after}
 

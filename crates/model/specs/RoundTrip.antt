@@ -16,7 +16,7 @@ use Rattle.model.specs.declared.Class.{Class}
 use Rattle.model.specs.declared.Deliverer.{Deliverer}
 use Rattle.model.specs.declared.Deliverer.TheVariants.{Restored}
 use Rattle.model.specs.declared.Start.TheVariants.{Empty}
-use Rattle.model.specs.declared.Answer.TheVariants.{Dumped, Whole}
+use Rattle.model.specs.Answer.{Dumped, Whole}
 use Rattle.model.specs.declared.Shares.{Shares}
 use Rattle.model.specs.declared.Usable.{Usable}
 use Rattle.model.specs.Numbers.{top64}

@@ -2,8 +2,8 @@
 -- and then hold the state that the rules come to. From an opening on any words do so: specs/SameFromOpening.
 use Rattle.std.specs.Prelude.{ℕ, ◌≡◌, cond, List, [], ◌∷◌, eqb}
 use Rattle.std.proofs.Math.Option.{some}
-use Rattle.model.specs.declared.Answer.{Answer}
-use Rattle.model.specs.declared.Answer.TheVariants.{Refused}
+use Rattle.model.specs.Answer.{Answer}
+use Rattle.model.specs.Answer.{Refused}
 use Rattle.model.specs.Settings.{settings_of}
 use Rattle.model.specs.Words.{State}
 use Rattle.model.specs.Calls.{Call, Step, step, refusal, unfit, refusals_of, first_met, held_in, reply, after}

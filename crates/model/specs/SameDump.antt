@@ -9,7 +9,7 @@
 use Rattle.std.specs.Prelude.{ℕ, ◌≡◌, Bool, true, ◌&&◌, List, [], ◌∷◌, ◌++◌, map}
 use Rattle.model.specs.declared.Class.{Class}
 use Rattle.model.specs.declared.Deliverer.TheVariants.{Restored}
-use Rattle.model.specs.declared.Answer.TheVariants.{Whole}
+use Rattle.model.specs.Answer.{Whole}
 use Rattle.model.specs.declared.Usable.{Usable}
 use Rattle.model.specs.declared.Shares.{Shares}
 use Rattle.model.specs.Class.{Each, pick, each}

@@ -7,8 +7,8 @@
 -- Of any words, settings and register, and any 64-bit reading: `take_batch` is asked on the same words, with the same arguments and the
 -- stamp. That `stamp_for` alters nothing: specs/ReadersLeave.
 use Rattle.std.specs.Prelude.{ℕ, ◌+◌, ◌*◌, ◌≤◌, ◌<◌, ◌≡◌, true, false, List, length}
-use Rattle.model.specs.declared.Answer.{Answer}
-use Rattle.model.specs.declared.Answer.TheVariants.{Refused, Said, NoStamp, StampAt}
+use Rattle.model.specs.Answer.{Answer}
+use Rattle.model.specs.Answer.{Refused, Said, NoStamp, StampAt}
 use Rattle.model.specs.Numbers.{top64}
 use Rattle.model.specs.Settings.{settings_of, usable_at, ring_of}
 use Rattle.model.specs.Codes.{verdict_fits, verdict_of}

@@ -3,8 +3,8 @@
 use Rattle.std.specs.Prelude.{ℕ, ◌≡◌, List}
 use Rattle.std.proofs.Math.Option.{some}
 use Rattle.model.specs.declared.Verdict.{Verdict}
-use Rattle.model.specs.declared.Answer.{Answer}
-use Rattle.model.specs.declared.Answer.TheVariants.{Said}
+use Rattle.model.specs.Answer.{Answer}
+use Rattle.model.specs.Answer.{Said}
 use Rattle.model.specs.Codes.{answer_number}
 use Rattle.model.specs.Calls.{Call, kind, reply}
 use Rattle.model.specs.Once.{Strike, asks_about}

@@ -2,7 +2,7 @@
 -- A judge, a take or one of their batch forms that answers Unjudged leaves every word as it was: of any words, settings and register.
 use Rattle.std.specs.Prelude.{ℕ, ◌≡◌, List}
 use Rattle.model.specs.declared.Verdict.TheVariants.{Unjudged}
-use Rattle.model.specs.declared.Answer.TheVariants.{Said}
+use Rattle.model.specs.Answer.{Said}
 use Rattle.model.specs.Calls.{Manner, Asking, Ticket, On, reply, after}
 
 -- in all four manners

@@ -4,7 +4,7 @@ use Rattle.std.proofs.Math.Option.{Option, none, some}
 use Rattle.model.specs.declared.Usable.{Usable}
 use Rattle.model.specs.declared.Settings.{Settings}
 use Rattle.model.specs.declared.Shares.{Shares}
-use Rattle.model.specs.declared.Answer.{Answer}
+use Rattle.model.specs.Answer.{Answer}
 use Rattle.model.specs.Settings.{no_usable, settings_fit, words_needed, register_words, book_words}
 use Rattle.model.specs.RegisterWords.{heading_width}
 use Rattle.model.specs.Words.{State, front_width}

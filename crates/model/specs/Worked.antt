@@ -2,8 +2,8 @@
 -- The theorem that the rules give them all is proofs/Worked; specs/WorkedOnWords says it of what the calls answer on words.
 use Rattle.std.specs.Prelude.{ℕ, zero, suc, ◌+◌, ◌*◌, ◌%◌, List, [], ◌∷◌, ◌++◌, map, length, replicate}
 use Rattle.model.specs.declared.Verdict.TheVariants.{New, Duplicate, Late, Ahead, Full}
-use Rattle.model.specs.declared.Answer.{Answer}
-use Rattle.model.specs.declared.Answer.TheVariants.{Done, Said, Yes, Dumped, NoFloor, FloorAt, Entries, Totals}
+use Rattle.model.specs.Answer.{Answer}
+use Rattle.model.specs.Answer.{Done, Said, Yes, Dumped, NoFloor, FloorAt, Entries, Totals}
 use Rattle.model.specs.Settings.{settings_of, usable_at, ring_of}
 use Rattle.model.specs.Register.{generation_at}
 use Rattle.model.specs.Judge.{bucket_of}

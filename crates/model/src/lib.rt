@@ -2,8 +2,10 @@
 // The rules stand in specs/, one file for each section of the scope paper, and what is proved of them in proofs/.
 #![tactic(auto)]
 
+mod codes;
+
 // A class of deliverers: each has places, limits and rings of its own.
-#[derive(Clone, Copy)]
+#[derive(Clone, Copy, Debug, PartialEq, Eq)]
 pub enum Class {
     Feeders,
     Peers,
@@ -11,7 +13,7 @@ pub enum Class {
 }
 
 // Who delivers a ticket. A restored deliverer carries the class that it is restored into.
-#[derive(Clone, Copy)]
+#[derive(Clone, Copy, Debug, PartialEq, Eq)]
 pub enum Deliverer {
     Feeder(u64),
     Peer(u64),
@@ -20,7 +22,7 @@ pub enum Deliverer {
 }
 
 // What a ticket is.
-#[derive(Clone, Copy)]
+#[derive(Clone, Copy, Debug, PartialEq, Eq)]
 pub enum Verdict {
     New,
     Duplicate,
@@ -31,7 +33,7 @@ pub enum Verdict {
 }
 
 // How a register starts: with no floor, waiting for the host's number, or at a floor.
-#[derive(Clone, Copy)]
+#[derive(Clone, Copy, Debug, PartialEq, Eq)]
 pub enum Start {
     Empty,
     Fallback,
@@ -68,7 +70,7 @@ pub enum Draw {
 }
 
 // The rule that gives a take's verdict, in the order in which the rules are tried; `Accepted` where none stands against the ticket.
-#[derive(Clone, Copy)]
+#[derive(Clone, Copy, Debug, PartialEq, Eq)]
 pub enum Reason {
     Accepted,
     Pending,
@@ -89,41 +91,29 @@ pub enum Reason {
     Slots,
 }
 
-// What a call answers.
-#[derive(Clone, Copy)]
-pub enum Answer {
-    // The refusal number alone.
-    Refused(u64),
-    Done,
-    Said(Verdict),
-    Yes,
-    No,
-    Begun,
-    Already,
-    // The bytes that a dump wrote.
-    Dumped(u64),
-    // The words that a view wrote.
-    Viewed(u64),
-    // The bytes that a restore read.
-    Whole(u64),
-    Partly(u64),
-    NoFloor,
-    FloorAt(u64),
-    // The swept bucket, and the published sweep in milliseconds.
-    SweptTo(u64, u64),
-    // A deliverer's entries.
-    Entries(u64),
-    // A class's entries, holders, units and `expired`.
-    Totals(u64, u64, u64, u64),
-    // The rule that gives a take's verdict.
-    Because(Reason),
-    // The smallest stamp with a wanted verdict, if any stamp has it.
-    NoStamp,
-    StampAt(u64),
+// Why a call is refused. A refusal alters nothing.
+#[derive(Clone, Copy, Debug, PartialEq, Eq)]
+pub enum Refusal {
+    // Settings, limits or starts of another length, a setting or a limit out of bounds, or a code that is not listed.
+    Unfit,
+    // Fewer words are lent than the settings need.
+    TooFewWords,
+    // The words were not opened with these settings, or are damaged.
+    UnsoundWords,
+    // The register number is not below the number of registers.
+    NoSuchRegister,
+    // A dump's output is too short for it.
+    OutputTooShort,
+    // A dump of a register that is pending.
+    Pending,
+    // A dump that is restored is cut short.
+    CutShort,
+    // A view's output is too short for it.
+    ViewTooShort,
 }
 
 // Clock milliseconds.
-#[derive(Clone, Copy)]
+#[derive(Clone, Copy, Debug, PartialEq, Eq)]
 pub struct Judged(pub u64);
 
 // A second of the share book, a number of at most 32 bits.
@@ -131,18 +121,18 @@ pub struct Judged(pub u64);
 pub struct Second(pub u64);
 
 // A bucket number.
-#[derive(Clone, Copy)]
+#[derive(Clone, Copy, Debug, PartialEq, Eq)]
 pub struct Bucket(pub u64);
 
 // How far behind and ahead of a reading a stamp may lie, in milliseconds.
-#[derive(Clone, Copy)]
+#[derive(Clone, Copy, Debug, PartialEq, Eq)]
 pub struct Window {
     pub behind: u64,
     pub ahead: u64,
 }
 
 // One register's settings.
-#[derive(Clone, Copy)]
+#[derive(Clone, Copy, Debug, PartialEq, Eq)]
 pub struct Usable {
     // The window for Feeders.
     pub origin: Window,
@@ -155,7 +145,7 @@ pub struct Usable {
 }
 
 // The share book's settings.
-#[derive(Clone, Copy)]
+#[derive(Clone, Copy, Debug, PartialEq, Eq)]
 pub struct Shares {
     // The most places of a class.
     pub places: u64,
@@ -168,7 +158,7 @@ pub struct Shares {
 }
 
 // The five entry limits.
-#[derive(Clone, Copy)]
+#[derive(Clone, Copy, Debug, PartialEq, Eq)]
 pub struct Limits {
     pub feeder: u64,
     pub feeders: u64,

@@ -6,7 +6,7 @@ use mathlib.Core.List.{List, [], ◌∷◌}
 use mathlib.Core.Option.{Option, none, some}
 use lib.Dec.{leb}
 use borrow.Author.Tests.{leb-true, not-true}
-use Rattle.model.specs.declared.Answer.TheVariants.{Said}
+use Rattle.model.specs.Answer.{Said}
 use Rattle.model.specs.declared.Verdict.TheVariants.{New}
 use Rattle.runs.proofs.Cases.{no, all_of, each_true}
 use Rattle.model.specs.Settings.{usable_at}

@@ -9,8 +9,8 @@ use lib.ListN.{replicate}
 use Rattle.runs.specs.Chunks.{flat}
 use Rattle.model.specs.declared.Class.TheVariants.{Feeders}
 use Rattle.model.specs.declared.Verdict.TheVariants.{New, Duplicate, Late}
-use Rattle.model.specs.declared.Answer.{Answer}
-use Rattle.model.specs.declared.Answer.TheVariants.{Done, Said, Whole, Partly, FloorAt}
+use Rattle.model.specs.Answer.{Answer}
+use Rattle.model.specs.Answer.{Done, Said, Whole, Partly, FloorAt}
 use Rattle.model.specs.Numbers.{top64}
 use Rattle.model.specs.Settings.{settings_of, usable_at}
 use Rattle.model.specs.Dump.{Dumped, Dump, first, further, word_bytes, read_dump}

@@ -5,8 +5,8 @@ use mathlib.Core.Path.{◌≡◌, refl}
 use mathlib.Core.Bool.{cond}
 use mathlib.Core.List.{List, [], ◌∷◌, ◌++◌, map}
 use lib.ListN.{replicate}
-use Rattle.model.specs.declared.Answer.{Answer}
-use Rattle.model.specs.declared.Answer.TheVariants.{Refused, Done, Said, Whole, NoFloor, FloorAt, Because}
+use Rattle.model.specs.Answer.{Answer}
+use Rattle.model.specs.Answer.{Refused, Done, Said, Whole, NoFloor, FloorAt, Because}
 use Rattle.model.specs.declared.Class.TheVariants.{Feeders, Peers, Own}
 use Rattle.model.specs.declared.Reason.{Reason}
 use Rattle.model.specs.declared.Reason.TheVariants.{Accepted, Pending, Flag, Held, Behind, Ahead, Closed, OwnShare}

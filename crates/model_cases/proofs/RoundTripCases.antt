@@ -11,7 +11,7 @@ use borrow.Author.Tests.{leb-true}
 use Rattle.model.specs.declared.Class.{Class}
 use Rattle.model.specs.declared.Class.TheVariants.{Feeders, Peers, Own}
 use Rattle.model.specs.declared.Start.TheVariants.{Empty}
-use Rattle.model.specs.declared.Answer.TheVariants.{Dumped, Whole}
+use Rattle.model.specs.Answer.{Dumped, Whole}
 use Rattle.runs.proofs.Cases.{both_true}
 use Rattle.model.specs.Numbers.{top64}
 use Rattle.model.specs.Settings.{settings_of, usable_at, words_needed}

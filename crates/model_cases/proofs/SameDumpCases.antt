@@ -9,8 +9,8 @@ use Rattle.runs.specs.Chunks.{flat}
 use Rattle.model.specs.declared.Class.TheVariants.{Feeders}
 use Rattle.model.specs.declared.Deliverer.TheVariants.{Restored}
 use Rattle.model.specs.declared.Verdict.TheVariants.{New, Duplicate}
-use Rattle.model.specs.declared.Answer.{Answer}
-use Rattle.model.specs.declared.Answer.TheVariants.{Done, Said, Dumped, Whole, Partly, NoFloor, FloorAt}
+use Rattle.model.specs.Answer.{Answer}
+use Rattle.model.specs.Answer.{Done, Said, Dumped, Whole, Partly, NoFloor, FloorAt}
 use Rattle.model.specs.Settings.{settings_of, words_needed}
 use Rattle.model.specs.Register.{Ring, generation_at}
 use Rattle.model.specs.Dump.{word_bytes}

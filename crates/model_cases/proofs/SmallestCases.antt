@@ -2,8 +2,8 @@
 use Prim.Native.Nat.{ℕ}
 use mathlib.Core.Path.{◌≡◌, refl}
 use mathlib.Core.List.{List, [], ◌∷◌, ◌++◌, map}
-use Rattle.model.specs.declared.Answer.{Answer}
-use Rattle.model.specs.declared.Answer.TheVariants.{Refused, Done, Said, NoStamp, StampAt}
+use Rattle.model.specs.Answer.{Answer}
+use Rattle.model.specs.Answer.{Refused, Done, Said, NoStamp, StampAt}
 use Rattle.model.specs.declared.Verdict.TheVariants.{New}
 use Rattle.model.specs.Calls.{Call, On, Close, StampFor, compute_rules}
 use Rattle.model.specs.SameAnswers.{served, answers_from}

@@ -8,8 +8,8 @@ use mathlib.Core.Option.{Option, none, some}
 use lib.Dec.{lit≤}
 use lib.ListN.{replicate}
 use Rattle.model.specs.declared.Verdict.TheVariants.{New, Late, Unjudged}
-use Rattle.model.specs.declared.Answer.{Answer}
-use Rattle.model.specs.declared.Answer.TheVariants.{Done, Said, Begun}
+use Rattle.model.specs.Answer.{Answer}
+use Rattle.model.specs.Answer.{Done, Said, Begun}
 use Rattle.runs.specs.Chunks.{flat}
 use Rattle.model.specs.Settings.{settings_of, usable_at, words_needed}
 use Rattle.model.specs.Dump.{word_bytes}

@@ -6,7 +6,7 @@ use lib.ListN.{replicate}
 use Rattle.runs.specs.Chunks.{flat}
 use Rattle.model.specs.declared.Class.TheVariants.{Peers}
 use Rattle.model.specs.declared.Deliverer.TheVariants.{Feeder, Peer, Restored}
-use Rattle.model.specs.declared.Answer.TheVariants.{Refused, Viewed}
+use Rattle.model.specs.Answer.{Refused, Viewed}
 use Rattle.model.specs.Settings.{settings_of}
 use Rattle.model.specs.Register.{generation_at}
 use Rattle.model.specs.Dump.{word_bytes}

@@ -1,45 +1,18 @@
--- Laws on numbers behind the leaf functions: caps, rounding up, and windows judged by differences.
+-- Laws on numbers behind the leaf functions: first stamps, rounding up, and windows judged by differences.
 use Prim.Native.Nat.{ℕ, suc, ◌+◌, ◌-◌, ◌*◌, ◌/◌, ◌%◌, ◌<◌, ◌≤◌, min}
-use native.Mathlib.Nat.{le-div_iff_mul-le, div-lt_iff_lt-mul, div-zero, div-add-mod', mul-add-div_right, div-eq_of_lt, mod-lt, mul-le-mul, mul-le-mul_left, mul-zero, suc-mul}
+use native.Mathlib.Nat.{div-zero, div-add-mod', mul-add-div_right, div-eq_of_lt, mod-lt, mul-le-mul_left, mul-zero, suc-mul}
 use native.Mathlib.Omega.{arith}
 use mathlib.Core.Path.{◌≡◌, refl, sym, ◌∙◌, ap}
-use mathlib.Core.Bool.{true, false, ◌&&◌}
-use lib.Dec.{leb, ltb}
-use borrow.Author.Tests.{leb-true, leb-false, le-leb, ltb-true, ltb-false, lt-ltb, le-ltb}
-use Rattle.runs.proofs.Cases.{by_test, both_true}
+use mathlib.Core.Bool.{false}
+use lib.Dec.{leb, ltb, eqb}
+use borrow.Author.Tests.{eqb-true, eqb-false, leb-true, leb-false, le-leb, ltb-true, ltb-false, lt-ltb, le-ltb}
+use Rattle.runs.proofs.Cases.{by_test}
 use Rattle.model.specs.declared.Usable.{Usable}
 use Rattle.model.specs.declared.Window.{Window}
 use Rattle.model.specs.Numbers.{top64, cap64, ceil}
 use Rattle.model.specs.Settings.{retained}
 use Rattle.model.specs.Judge.{in_window, front_past}
 use Rattle.model.specs.Stamp.{first_stamp}
-
--- ---- capped
-pub uncapped : (n : ℕ) → n ≤ top64 → n ≡ cap64 n
-unfolding cap64
-uncapped n h = omega arith
-
-pub capped : (n : ℕ) → top64 ≤ n → top64 ≡ cap64 n
-unfolding cap64
-capped n h = omega arith
-
--- a product of two numbers of 32 bits fits
-pub short_product : (a b : ℕ) → (leb a 4_294_967_295 && leb b 4_294_967_295) ≡ true → a * b ≤ top64
-short_product a b t =
-    let p = both_true (leb a 4_294_967_295) (leb b 4_294_967_295) t in
-    let k = mul-le-mul (leb-true a 4_294_967_295 p.0) (leb-true b 4_294_967_295 p.1) in
-    omega (arith, k)
-
--- a product fits exactly where one factor is within the quotient
-module _ (a b : ℕ) (h : (b ≡ 0) → ⊥) where
-  positive : 0 < b
-  positive = by_test (leb 1 b) (λ t. leb-true 1 b t) (λ t. absurd (h (let k = leb-false 1 b t in omega arith)))
-
-  pub product_fits : a ≤ top64 / b → a * b ≤ top64
-  product_fits l = (le-div_iff_mul-le positive).0 l
-
-  pub product_past : top64 / b < a → top64 ≤ a * b
-  product_past l = let k = (div-lt_iff_lt-mul positive).0 l in omega arith
 
 -- ---- the first stamp of a bucket, which is one for all buckets from 2^64 − 1 on
 end_capped : (b w : ℕ) → cap64 (cap64 ((cap64 b - 1) * w) + 1) ≡ cap64 (cap64 ((b - 1) * w) + 1)
@@ -55,10 +28,9 @@ end_capped b w =
     let far = mul-le-mul_left (b - 1) some in
     rw k (omega (arith, far))))
 
-pub first_by : (u : Usable) (b sum before end next back r : ℕ) → sum ≡ cap64 b → before ≡ sum - 1 → end ≡ cap64 (before * u.bucket) → next ≡ cap64 (end + 1)
-    → back ≡ retained u → r ≡ next - back → r ≡ first_stamp u b
-unfolding first_stamp
-first_by u b sum before end next back r s p e n k i = i ∙ rw (n, k, e, p, s, end_capped b u.bucket)
+pub first_is : (u : Usable) (b : ℕ) → min (min ((min b top64 - 1) * u.bucket) top64 + 1) top64 - retained u ≡ first_stamp u b
+unfolding first_stamp cap64
+first_is u b = let e = end_capped b u.bucket in rw e
 
 -- ---- rounded up
 pub ceil_by_zero : (n d : ℕ) → d ≡ 0 → 0 ≡ ceil n d
@@ -69,7 +41,7 @@ module _ (n d : ℕ) (h : (d ≡ 0) → ⊥) where
   d_positive : 0 < d
   d_positive = by_test (leb 1 d) (λ t. leb-true 1 d t) (λ t. absurd (h (let k = leb-false 1 d t in omega arith)))
 
-  pub ceil_even : n % d ≡ 0 → n / d ≡ ceil n d
+  ceil_even : n % d ≡ 0 → n / d ≡ ceil n d
   unfolding ceil
   ceil_even e =
       let p = d_positive in
@@ -77,7 +49,7 @@ module _ (n d : ℕ) (h : (d ≡ 0) → ⊥) where
       let z : (d - 1) / d ≡ 0 = div-eq_of_lt (omega arith) in
       sym (ap (λ (m : ℕ). m / d) k ∙ mul-add-div_right p (n / d) (d - 1) ∙ rw z (omega arith))
 
-  pub ceil_odd : (n % d ≡ 0 → ⊥) → n / d + 1 ≡ ceil n d
+  ceil_odd : (n % d ≡ 0 → ⊥) → n / d + 1 ≡ ceil n d
   unfolding ceil
   ceil_odd e =
       let p = d_positive in
@@ -88,14 +60,10 @@ module _ (n d : ℕ) (h : (d ≡ 0) → ⊥) where
       let z : (n % d - 1) / d ≡ 0 = div-eq_of_lt (omega arith) in
       sym (ap (λ (m : ℕ). m / d) k ∙ mul-add-div_right p (suc (n / d)) (n % d - 1) ∙ rw z (omega arith))
 
-  -- a quotient that is rounded up is not the largest number
-  pub ceil_room : (n % d ≡ 0 → ⊥) → n ≤ top64 → n / d + 1 ≤ top64
-  ceil_room e l =
-      let p = d_positive in
-      let q = div-add-mod' n d in
-      let r : 0 < n % d = by_test (leb 1 (n % d)) (λ t. leb-true 1 (n % d) t) (λ t. absurd (e (let k = leb-false 1 (n % d) t in omega arith))) in
-      let m = mul-le-mul_left (n / d) p in
-      omega (arith, m)
+  pub ceil_is : n / d + min 1 (n % d) ≡ ceil n d
+  ceil_is =
+      by_test (eqb (n % d) 0) (λ t. let e = eqb-true (n % d) 0 t in rw e (let k = ceil_even e in omega arith))
+      (λ t. let e = eqb-false (n % d) 0 t in let k = ceil_odd e in omega arith)
 
 -- ---- two tests that hold together
 same_test : (a b c d : ℕ) → (a ≤ b → c ≤ d) → (c ≤ d → a ≤ b) → leb a b ≡ leb c d

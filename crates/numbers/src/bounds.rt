@@ -1,4 +1,5 @@
 // Settings and limits: read from the words that a host hands in, tested against their bounds, and the words that they need.
+ghost use Rattle.std.specs.List.{list_all};
 ghost use Rattle.std.specs.Prelude.{◌≡◌, true, cond, ◌<◌, ◌≤◌, length};
 ghost use Rattle.model.specs.Settings.{usable_of as usable_from, usable_below as usable_read, no_usable as no_settings, settings_of as settings_in, limits_of as limits_in, usable_at, power_of_two, window_fit as window_within, usable_fit as usable_within, shares_fit as shares_within, limits_fit as limits_within, settings_fit as settings_within, fit_at, register_words, words_for, book_words as places_words, words_needed as needed};
 ghost use Rattle.model.specs.Most.{rings_most, book_most};
@@ -60,19 +61,16 @@ fn usable_below(st: &[u64], r: usize) -> Usable
     ensures { result ≡ usable_read st.now r }
 {
     if (r as u64) < st[0] {
-        return usable_of(st, r);
+        usable_of(st, r)
+    } else {
+        no_usable()
     }
-    no_usable()
 }
 
 pub fn settings_of(st: &[u64]) -> Settings
     requires { length st.now ≡ 29 }
     ensures { result ≡ settings_in st.now }
 {
-    let a = usable_below(st, 0);
-    let b = usable_below(st, 1);
-    let c = usable_below(st, 2);
-    let d = usable_below(st, 3);
     Settings {
         registers: st[0],
         shares: Shares {
@@ -81,7 +79,12 @@ pub fn settings_of(st: &[u64]) -> Settings
             feeder: st[3],
             peer: st[4],
         },
-        usable: [a, b, c, d],
+        usable: [
+            usable_below(st, 0),
+            usable_below(st, 1),
+            usable_below(st, 2),
+            usable_below(st, 3),
+        ],
     }
 }
 
@@ -99,45 +102,43 @@ pub fn limits_of(ls: &[u64]) -> Limits
 }
 
 // A power of two from 2 to 1,024.
+#[tactic(auto, unfolding(model::specs::Settings::power_of_two))]
 pub fn is_power_of_two(n: u64) -> bool
     ensures { result ≡ power_of_two n }
 {
-    (n == 2)
-        | ((n == 4)
-            | ((n == 8)
-                | ((n == 16)
-                    | ((n == 32)
-                        | ((n == 64) | ((n == 128) | ((n == 256) | ((n == 512) | (n == 1024)))))))))
+    matches!(n, 2 | 4 | 8 | 16 | 32 | 64 | 128 | 256 | 512 | 1024)
 }
 
+#[tactic(auto, unfolding(model::specs::Settings::window_fit))]
 fn window_fit(w: Window) -> bool
     ensures { result ≡ window_within w }
 {
-    (w.behind <= SPAN) & (w.ahead <= SPAN)
+    w.behind <= SPAN && w.ahead <= SPAN
 }
 
+#[tactic(auto, unfolding(model::specs::Settings::usable_fit))]
 pub fn usable_fit(u: Usable) -> bool
     ensures { result ≡ usable_within u }
 {
-    let origin = window_fit(u.origin);
-    let copy = window_fit(u.copy);
-    let power = is_power_of_two(u.slots);
-    let ring = spans::ring_of(u);
-    origin & (copy & (((1 <= u.bucket) & (u.bucket <= 60_000)) & (power & (ring <= 256))))
+    window_fit(u.origin)
+        && window_fit(u.copy)
+        && matches!(u.bucket, 1..=60_000)
+        && is_power_of_two(u.slots)
+        && spans::ring_of(u) <= 256
 }
 
+#[tactic(auto, unfolding(model::specs::Settings::shares_fit))]
 pub fn shares_fit(b: Shares) -> bool
     ensures { result ≡ shares_within b }
 {
-    ((1 <= b.places) & (b.places <= 64))
-        & (((2 <= b.pairs) & (b.pairs <= 512)) & ((b.feeder <= 4_096) & (b.peer <= 4_096)))
+    matches!(b.places, 1..=64) && matches!(b.pairs, 2..=512) && b.feeder <= 4_096 && b.peer <= 4_096
 }
 
+#[tactic(auto, unfolding(model::specs::Settings::limits_fit))]
 pub fn limits_fit(l: Limits) -> bool
     ensures { result ≡ limits_within l }
 {
-    (l.feeder <= MOST)
-        & ((l.feeders <= MOST) & ((l.peer <= MOST) & ((l.peers <= MOST) & (l.relay <= MOST))))
+    l.feeder <= MOST && l.feeders <= MOST && l.peer <= MOST && l.peers <= MOST && l.relay <= MOST
 }
 
 // A register's settings; none where there is no such register.
@@ -145,48 +146,34 @@ pub fn usable_in(s: Settings, r: usize) -> Usable
     requires { r < 4 }
     ensures { result ≡ usable_at s r }
 {
-    let all = s.usable;
-    all[r]
+    s.usable[r]
 }
 
-// A register's settings are in bounds, or it is not below the number of registers.
-fn fits_at(s: Settings, r: usize) -> bool
-    requires { r < 4 }
-    ensures { result ≡ fit_at s r }
+// All these registers' settings are in bounds.
+fn all_fit(usable: &[Usable]) -> bool
+    ensures { result ≡ list_all usable_within usable.now }
 {
-    let fit = usable_fit(usable_in(s, r));
-    (s.registers <= (r as u64)) | fit
+    usable.iter().all(|u| usable_fit(*u))
 }
 
+// All settings are in bounds, those of the registers that there are among them.
+#[tactic(auto, using(crate::proofs::Needed::fit_listed), unfolding(model::specs::Settings::settings_fit))]
 pub fn settings_fit(s: Settings) -> bool
     ensures { result ≡ settings_within s }
 {
-    let shares = shares_fit(s.shares);
-    let a = fits_at(s, 0);
-    let b = fits_at(s, 1);
-    let c = fits_at(s, 2);
-    let d = fits_at(s, 3);
-    ((1 <= s.registers) & (s.registers <= 4)) & (shares & (a & (b & (c & d))))
+    match s.registers {
+        1..=4 => shares_fit(s.shares) && all_fit(&s.usable[..s.registers as usize]),
+        _ => false,
+    }
 }
 
 // The words of one register's rings. The bound keeps the sums below from wrapping.
+#[tactic(auto, using(crate::proofs::Needed::usable_few), unfolding(model::specs::Settings::register_words))]
 fn register_words(u: Usable) -> u64
     requires { usable_within u ≡ true }
     ensures { (result ≡ register_words u) × (result ≤ rings_most) }
 {
-    let ring = spans::ring_of(u);
-    3 * ring * (u.slots + layout::GENERATION_HEAD as u64)
-}
-
-// The same for a register by its number; 0 where there is no such register.
-fn words_at(s: Settings, r: usize) -> u64
-    requires { (r < 4) × (settings_within s ≡ true) }
-    ensures { (result ≡ words_for s r) × (result ≤ rings_most) }
-{
-    if s.registers <= (r as u64) {
-        return 0;
-    }
-    register_words(usable_in(s, r))
+    3 * spans::ring_of(u) * (u.slots + layout::GENERATION_HEAD as u64)
 }
 
 // The words of the share book's places.
@@ -194,29 +181,29 @@ fn book_words(b: Shares) -> u64
     requires { shares_within b ≡ true }
     ensures { (result ≡ places_words b) × (result ≤ book_most) }
 {
-    let place = starts::place_width(b) as u64;
-    3 * b.places * place
+    3 * b.places * starts::place_width(b) as u64
 }
 
 // The words that settings in bounds need, for whoever has tested them.
+#[tactic(auto, using(crate::proofs::Needed::few_registers, crate::proofs::Needed::rings_none, model::proofs::Bounds::fit_shares))]
 pub fn words_in_bounds(s: Settings) -> u64
     requires { settings_within s ≡ true }
     ensures { result ≡ needed s }
 {
-    let a = words_at(s, 0);
-    let b = words_at(s, 1);
-    let c = words_at(s, 2);
-    let d = words_at(s, 3);
-    let book = book_words(s.shares);
-    a + b + c + d + book + 128
+    let mut rings = 0;
+    for u in &s.usable[..s.registers as usize] {
+        rings += register_words(*u);
+    }
+    rings + book_words(s.shares) + 128
 }
 
 // The words that any settings need: 0 where they are out of bounds, since no words serve those.
 pub fn words_needed(s: Settings) -> u64
     ensures { result ≡ cond (settings_within s) (needed s) 0 }
 {
-    if !settings_fit(s) {
-        return 0;
+    if settings_fit(s) {
+        words_in_bounds(s)
+    } else {
+        0
     }
-    words_in_bounds(s)
 }

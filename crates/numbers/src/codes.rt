@@ -1,9 +1,10 @@
 // The codes that a host hands in, tested and read, and the numbers that answers go out as.
 ghost use Rattle.std.specs.Prelude.{◌≡◌};
-ghost use Rattle.model.specs.Class.{class_number as number_of_class, class_fits as listed_class, class_at as class_with, class_of as class_for, deliverer_fits as listed_deliverer, deliverer_of as deliverer_with};
-ghost use Rattle.model.specs.Codes.{flag_fits as listed_flag, start_fits as listed_start, start_of as start_with, verdict_number as number_of_verdict, verdict_fits as listed_verdict, verdict_of as verdict_with, same_verdict as one_verdict, reason_number as number_of_reason, reason_class as class_of_reason, reason_verdict as verdict_of_reason};
+ghost use Rattle.model.specs.Class.{class_number as number_of_class, class_of as class_for, deliverer_fits, deliverer_of};
+ghost use Rattle.model.specs.Codes.{flag_fits, flag_of, start_fits as listed_start, start_of as start_with, verdict_number as number_of_verdict, same_verdict as one_verdict, reason_number as number_of_reason, reason_class as class_of_reason, reason_verdict as verdict_of_reason};
+ghost use Rattle.model.specs.Listed.{listed};
 
-use model::{Class, Deliverer, Reason, Start, Verdict};
+use model::{Class, Deliverer, Reason, Refusal, Start, Verdict};
 
 // The kinds of deliverers.
 pub const FEEDER: u64 = 0;
@@ -14,40 +15,24 @@ pub const RELAY: u64 = 2;
 
 pub const RESTORED: u64 = 3;
 
-pub fn flag_fits(flag: u64) -> bool
-    ensures { result ≡ listed_flag flag }
+// A flag that a call brings.
+pub fn flag(code: u64) -> Result<bool, Refusal>
+    ensures { result ≡ listed (flag_fits code) (flag_of code) }
 {
-    flag <= 1
-}
-
-pub fn class_fits(number: u64) -> bool
-    ensures { result ≡ listed_class number }
-{
-    number <= 2
-}
-
-pub fn class_at(number: u64) -> Class
-    ensures { result ≡ class_with number }
-{
-    if number == 0 {
-        return Class::Feeders;
+    match code {
+        0 => Ok(false),
+        1 => Ok(true),
+        _ => Err(Refusal::Unfit),
     }
-    if number == 1 {
-        return Class::Peers;
-    }
-    Class::Own
 }
 
 pub fn class_number(class: Class) -> u64
     ensures { result ≡ number_of_class class }
 {
-    match class {
-        Class::Feeders => 0,
-        Class::Peers => 1,
-        Class::Own => 2,
-    }
+    u64::from(class)
 }
 
+#[tactic(auto, unfolding(model::specs::Class::class_of))]
 pub fn class_of(who: Deliverer) -> Class
     ensures { result ≡ class_for who }
 {
@@ -59,26 +44,18 @@ pub fn class_of(who: Deliverer) -> Class
     }
 }
 
-pub fn deliverer_fits(kind: u64, number: u64) -> bool
-    ensures { result ≡ listed_deliverer kind number }
+// A deliverer that a call brings. The number of a Relay is not read.
+#[tactic(auto, unfolding(model::specs::Class::deliverer_fits, model::specs::Class::deliverer_of))]
+pub fn deliverer(kind: u64, number: u64) -> Result<Deliverer, Refusal>
+    ensures { result ≡ listed (deliverer_fits kind number) (deliverer_of kind number) }
 {
-    let listed = class_fits(number);
-    (kind <= RELAY) | ((kind == RESTORED) & listed)
-}
-
-pub fn deliverer_of(kind: u64, number: u64) -> Deliverer
-    ensures { result ≡ deliverer_with kind number }
-{
-    if kind == FEEDER {
-        return Deliverer::Feeder(number);
+    match kind {
+        FEEDER => Ok(Deliverer::Feeder(number)),
+        PEER => Ok(Deliverer::Peer(number)),
+        RELAY => Ok(Deliverer::Relay),
+        RESTORED => Ok(Deliverer::Restored(Class::try_from(number)?)),
+        _ => Err(Refusal::Unfit),
     }
-    if kind == PEER {
-        return Deliverer::Peer(number);
-    }
-    if kind == RELAY {
-        return Deliverer::Relay;
-    }
-    Deliverer::Restored(class_at(number))
 }
 
 pub fn start_fits(code: u64) -> bool
@@ -87,64 +64,31 @@ pub fn start_fits(code: u64) -> bool
     code <= 2
 }
 
+#[tactic(auto, unfolding(model::specs::Codes::start_of))]
 pub fn start_of(code: u64, floor: u64) -> Start
     ensures { result ≡ start_with code floor }
 {
-    if code == 0 {
-        return Start::Empty;
+    match code {
+        0 => Start::Empty,
+        1 => Start::Fallback,
+        _ => Start::At(floor),
     }
-    if code == 1 {
-        return Start::Fallback;
-    }
-    Start::At(floor)
-}
-
-pub fn verdict_fits(number: u64) -> bool
-    ensures { result ≡ listed_verdict number }
-{
-    number <= 5
-}
-
-pub fn verdict_of(number: u64) -> Verdict
-    ensures { result ≡ verdict_with number }
-{
-    if number == 0 {
-        return Verdict::New;
-    }
-    if number == 1 {
-        return Verdict::Duplicate;
-    }
-    if number == 2 {
-        return Verdict::Late;
-    }
-    if number == 3 {
-        return Verdict::Ahead;
-    }
-    if number == 4 {
-        return Verdict::Full;
-    }
-    Verdict::Unjudged
 }
 
 pub fn verdict_number(verdict: Verdict) -> u64
     ensures { result ≡ number_of_verdict verdict }
 {
-    match verdict {
-        Verdict::New => 0,
-        Verdict::Duplicate => 1,
-        Verdict::Late => 2,
-        Verdict::Ahead => 3,
-        Verdict::Full => 4,
-        Verdict::Unjudged => 5,
-    }
+    u64::from(verdict)
 }
 
+#[tactic(auto, unfolding(model::specs::Codes::verdict_number))]
 pub fn same_verdict(a: Verdict, b: Verdict) -> bool
     ensures { result ≡ one_verdict a b }
 {
-    verdict_number(a) == verdict_number(b)
+    a == b
 }
 
+#[tactic(auto, unfolding(model::specs::Codes::reason_number))]
 pub fn reason_number(reason: Reason) -> u64
     ensures { result ≡ number_of_reason reason }
 {
@@ -169,49 +113,34 @@ pub fn reason_number(reason: Reason) -> u64
 }
 
 // The number of the class that holds the ticket; 0 where another rule is named.
+#[tactic(auto, unfolding(model::specs::Codes::reason_class))]
 pub fn reason_class(reason: Reason) -> u64
     ensures { result ≡ class_of_reason reason }
 {
-    match reason {
-        Reason::Accepted => 0,
-        Reason::Pending => 0,
-        Reason::Flag => 0,
-        Reason::Held(class) => class_number(class),
-        Reason::Floor => 0,
-        Reason::Behind => 0,
-        Reason::Ahead => 0,
-        Reason::Closed => 0,
-        Reason::OwnShare => 0,
-        Reason::ClassLimit => 0,
-        Reason::EqualPart => 0,
-        Reason::TwiceLimit => 0,
-        Reason::Places => 0,
-        Reason::Pairs => 0,
-        Reason::Position => 0,
-        Reason::Slots => 0,
+    if let Reason::Held(class) = reason {
+        class_number(class)
+    } else {
+        0
     }
 }
 
 // The verdict that take gives by a rule.
+#[tactic(auto, unfolding(model::specs::Codes::reason_verdict))]
 pub fn reason_verdict(reason: Reason) -> Verdict
     ensures { result ≡ verdict_of_reason reason }
 {
     match reason {
         Reason::Accepted => Verdict::New,
-        Reason::Pending => Verdict::Unjudged,
-        Reason::Flag => Verdict::Unjudged,
+        Reason::Pending | Reason::Flag => Verdict::Unjudged,
         Reason::Held(_) => Verdict::Duplicate,
-        Reason::Floor => Verdict::Late,
-        Reason::Behind => Verdict::Late,
-        Reason::Ahead => Verdict::Late,
-        Reason::Closed => Verdict::Full,
-        Reason::OwnShare => Verdict::Full,
-        Reason::ClassLimit => Verdict::Full,
-        Reason::EqualPart => Verdict::Full,
-        Reason::TwiceLimit => Verdict::Full,
-        Reason::Places => Verdict::Full,
-        Reason::Pairs => Verdict::Full,
-        Reason::Position => Verdict::Late,
-        Reason::Slots => Verdict::Full,
+        Reason::Floor | Reason::Behind | Reason::Ahead | Reason::Position => Verdict::Late,
+        Reason::Closed
+        | Reason::OwnShare
+        | Reason::ClassLimit
+        | Reason::EqualPart
+        | Reason::TwiceLimit
+        | Reason::Places
+        | Reason::Pairs
+        | Reason::Slots => Verdict::Full,
     }
 }

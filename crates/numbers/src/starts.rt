@@ -30,7 +30,7 @@ pub fn place_width(b: Shares) -> usize
     requires { b.pairs ≤ 512 }
     ensures { (result ≡ place_words b.pairs) × (result ≤ place_most) }
 {
-    2 * (b.pairs as usize) + layout::PLACE_HEAD
+    2 * b.pairs as usize + layout::PLACE_HEAD
 }
 
 // Where place i of a class starts in the class's words, after those of totals.
@@ -38,8 +38,7 @@ pub fn place_start(b: Shares, i: usize) -> usize
     requires { (b.pairs ≤ 512) × (i ≤ 64) }
     ensures { (result ≡ class_head + i * place_words b.pairs) × (result ≤ class_most) }
 {
-    let place = place_width(b);
-    layout::CLASS_HEAD + i * place
+    layout::CLASS_HEAD + i * place_width(b)
 }
 
 // The words of a class in the book: its totals, and P places.
@@ -47,8 +46,7 @@ pub fn class_width(b: Shares) -> usize
     requires { shares_fit b ≡ true }
     ensures { (result ≡ class_words b) × (result ≤ class_most) }
 {
-    let place = place_width(b);
-    layout::CLASS_HEAD + (b.places as usize) * place
+    layout::CLASS_HEAD + b.places as usize * place_width(b)
 }
 
 // Where a class starts.
@@ -56,18 +54,16 @@ pub fn class_start(s: Settings, class: Class) -> usize
     requires { settings_fit s ≡ true }
     ensures { (result ≡ class_from s class) × (result + class_words s.shares ≤ words_needed s) }
 {
-    let width = class_width(s.shares);
-    let number = codes::class_number(class) as usize;
-    layout::FRONT + number * width
+    layout::FRONT + codes::class_number(class) as usize * class_width(s.shares)
 }
 
 // The words of one class's ring.
+#[tactic(auto, using(crate::proofs::Needed::usable_few, crate::proofs::Placing::ring_few))]
 pub fn ring_width(u: Usable) -> usize
     requires { usable_fit u ≡ true }
     ensures { (result ≡ ring_words u) × (result ≤ ring_most) }
 {
-    let ring = spans::ring_of(u) as usize;
-    ring * ((u.slots as usize) + layout::GENERATION_HEAD)
+    spans::ring_of(u) as usize * (u.slots as usize + layout::GENERATION_HEAD)
 }
 
 // The words of a register: its own, and three rings.
@@ -75,25 +71,20 @@ pub fn register_width(u: Usable) -> usize
     requires { usable_fit u ≡ true }
     ensures { (result ≡ register_words u) × (result ≤ register_most) }
 {
-    let ring = ring_width(u);
-    layout::HEADING + 3 * ring
+    layout::HEADING + 3 * ring_width(u)
 }
 
 // Where a register starts: after the front, the book, and the registers before it.
+#[tactic(auto, using(crate::proofs::Needed::few_registers, model::proofs::Bounds::fit_shares))]
 pub fn register_start(s: Settings, register: usize) -> usize
     requires { (settings_fit s ≡ true) × (register < s.registers) }
     ensures { (result ≡ register_from s register) × (result + register_words (usable_at s register) ≤ words_needed s) }
 {
-    let width = class_width(s.shares);
-    let mut a = layout::FRONT + 3 * width;
-    let mut i = 0;
-    while i < register {
-        let u = bounds::usable_in(s, i);
-        let more = register_width(u);
-        a += more;
-        i += 1;
+    let mut start = layout::FRONT + 3 * class_width(s.shares);
+    for u in &s.usable[..register] {
+        start += register_width(*u);
     }
-    a
+    start
 }
 
 // Where a register lies.
@@ -101,12 +92,11 @@ pub fn register_extent(s: Settings, r: usize) -> RegisterExtent
     requires { (settings_fit s ≡ true) × (r < s.registers) }
     ensures { RegisterAt s r result }
 {
-    let u = bounds::usable_in(s, r);
+    let u = s.usable[r];
     let start = register_start(s, r);
-    let width = register_width(u);
     RegisterExtent {
-        u: u,
-        start: start,
-        end: start + width,
+        u,
+        start,
+        end: start + register_width(u),
     }
 }

@@ -7,14 +7,13 @@ use crate::codes;
 use model::{Class, Shares};
 
 // The units that a place costs, by its class and its kind word. The deliverer's number has no part in it.
+#[tactic(auto, unfolding(model::specs::Book::place_units))]
 pub fn units_of(shares: Shares, class: Class, kind: u64) -> u64
     requires { (shares.feeder ≤ 4_096) × (shares.peer ≤ 4_096) }
     ensures { (result ≤ 4_096) × ((number : ℕ) → result ≡ place_units shares (read_who class kind number)) }
 {
-    if kind == codes::RESTORED {
-        return shares.peer;
-    }
     match class {
+        _ if kind == codes::RESTORED => shares.peer,
         Class::Feeders => shares.feeder,
         Class::Peers => shares.peer,
         Class::Own => 0,

@@ -3,33 +3,24 @@ use Prim.Native.Nat.{ℕ, suc, ◌+◌, ◌-◌, ◌<◌, ◌≤◌}
 use native.Mathlib.Numerals.{add-one}
 use native.Mathlib.Omega.{arith}
 use mathlib.Core.Path.{◌≡◌}
-use mathlib.Core.List.{List, ◌∷◌}
-use lib.ListN.{length, replicate}
+use mathlib.Core.List.{List}
+use lib.ListN.{length}
 use borrow.Rule.Slice.PartMut.{put_mid}
 use Rattle.model.specs.declared.Start.{Start}
 use Rattle.model.specs.declared.Settings.{Settings}
-use Rattle.model.specs.declared.Usable.{Usable}
 use Rattle.model.specs.Settings.{usable_at, words_needed}
-use Rattle.model.specs.RegisterWords.{floor_flag, floor_word, flag_word, encode_heading}
+use Rattle.model.specs.RegisterWords.{encode_heading}
 use Rattle.model.specs.Words.{register_start}
-use Rattle.opening.specs.Opened.{start_floor, start_pending, heading_at, start_at, with_heading, with_headings}
-use Rattle.opening.proofs.Blank.{none_published}
-
--- ---- write_heading
-pub heading_words : (u : Usable) (start : Start) (flag floor pending : ℕ)
-    → flag ≡ floor_flag (start_floor start) → floor ≡ floor_word (start_floor start) → pending ≡ flag_word (start_pending start)
-    → u.origin.behind ∷ u.origin.ahead ∷ u.copy.behind ∷ u.copy.ahead ∷ u.bucket ∷ u.slots ∷ 0 ∷ 0 ∷ flag ∷ floor ∷ pending ∷ replicate 13 0
-    ≡ encode_heading u (heading_at start)
-heading_words u start flag floor pending e f g = let n = none_published u in cc
+use Rattle.opening.specs.Opened.{heading_at, start_at, with_heading, with_headings}
 
 -- ---- write_register
-pub register_words : (s : Settings) (starts : List ℕ) (r a : ℕ) (u : Usable) (start : Start) (ws own : List ℕ)
-    → a ≡ register_start s r → u ≡ usable_at s r → start ≡ start_at starts r → own ≡ encode_heading u (heading_at start)
+pub register_words : (s : Settings) (starts : List ℕ) (r a : ℕ) (start : Start) (ws own : List ℕ)
+    → a ≡ register_start s r → start ≡ start_at starts r → own ≡ encode_heading (usable_at s r) (heading_at start)
     → put_mid a (a + 24 - a) ws own ≡ with_heading s starts r ws
 unfolding with_heading
-register_words s starts r a u start ws own e f g h =
+register_words s starts r a start ws own e g h =
     let k : a + 24 - a ≡ 24 = omega arith in
-    rw (k, h, f, g, e)
+    rw (k, h, g, e)
 
 -- ---- write_registers: the registers from r on are still to be written
 pub record Headed (s : Settings) (starts ws₀ ws : List ℕ) (r : ℕ) : Type 0 where

@@ -1,12 +1,14 @@
--- Pairs in words, for src/cells.rt: what a cell holds, and what a store or a move in the cells does to the list of pairs.
-use Prim.Native.Nat.{ℕ, zero, suc, ◌+◌, ◌-◌, ◌*◌, ◌<◌, ◌≤◌}
+-- Pairs in words, for src/lib.rt: what a cell holds, and what a store or a move in the cells does to the list of pairs.
+use Prim.Native.Nat.{ℕ, zero, suc, ◌+◌, ◌-◌, ◌*◌, ◌/◌, ◌<◌, ◌≤◌}
 use native.Mathlib.Numerals.{add-one}
 use native.Mathlib.Omega.{arith}
 use mathlib.Core.Path.{◌≡◌, refl, ap, ap₂, sym, ◌∙◌}
 use mathlib.Core.Bool.{false}
-use mathlib.Core.List.{List, [], ◌∷◌, ◌++◌, append_assoc}
-use lib.ListN.{length, get_or, set, take, drop, replicate, length-append, length-drop, take-append-drop, drop_of_length-le}
-use lib.Seq.{take_at, drop_at, drop-cons, take-suc, get_or-drop, length-take-le, drop-drop}
+use mathlib.Core.List.{List, [], ◌∷◌, ◌++◌, append_assoc, map}
+use lib.ListN.{length, get_or, set, take, drop, replicate, length-append, length-drop, take-append-drop, drop_of_length-le, length-map, get_or-map}
+use Rattle.std.specs.List.{copy_within}
+use Rattle.std.specs.Simd.{first_chunks}
+use lib.Seq.{take-append-add, drop-append-add, take_at, drop_at, drop-cons, take-suc, get_or-drop, length-take-le, drop-drop}
 use lib.Dec.{eqb}
 use borrow.Author.Tests.{le-leb, lt-leb}
 use borrow.Rule.Slice.PartMut.{mid_of, put_mid}
@@ -40,6 +42,28 @@ count_word (suc n) (suc i) ws h =
     let e : 2 * suc i + 1 ≡ 2 + (2 * i + 1) = omega arith in
     rw e (sym (get_or-drop 2 ws (2 * i + 1) 0) ∙ count_word n i (drop 2 ws) (omega arith))
 
+-- the same by chunks of two words
+abbrev pub pair_of : List ℕ → Pair
+pair_of ws = record { second = get_or ws 0 0; count = get_or ws 1 0 }
+
+abbrev pub chunks_of : ℕ → List ℕ → List (List ℕ)
+chunks_of n ws = first_chunks 2 (length (take (2 * n) ws) / 2) (take (2 * n) ws)
+
+read_chunks : (n : ℕ) (ws : List ℕ) → 2 * n ≤ length ws → map pair_of (first_chunks 2 n (take (2 * n) ws)) ≡ read_pairs n ws
+unfolding read_pairs
+read_chunks zero ws h = refl
+read_chunks (suc n) [] h = absurd (omega arith)
+read_chunks (suc n) (x ∷ []) h = absurd (omega arith)
+read_chunks (suc n) (x ∷ y ∷ ws) h =
+    let e : 2 * suc n ≡ suc (suc (2 * n)) = omega arith in
+    rw e (ap (λ (qs : List Pair). record { second = x; count = y } ∷ qs) (read_chunks n ws (omega arith)))
+
+pub parts_read : (n : ℕ) (ws : List ℕ) (parts : List (List ℕ)) → 2 * n ≤ length ws → parts ≡ chunks_of n ws → map pair_of parts ≡ read_pairs n ws
+parts_read n ws parts h is =
+    let l = length-take-le (2 * n) ws h in
+    let e : length (take (2 * n) ws) / 2 ≡ n = omega arith in
+    rw (is, e) (read_chunks n ws h)
+
 pub total_append : (a b : List Pair) → total (a ++ b) ≡ total a + total b
 unfolding total
 total_append [] b = omega arith
@@ -48,55 +72,56 @@ total_append (q ∷ a) b = omega (arith, total_append a b)
 pub total_part : (k : ℕ) (qs : List Pair) → total (take k qs) + total (drop k qs) ≡ total qs
 total_part k qs = sym (total_append (take k qs) (drop k qs)) ∙ ap total (take-append-drop k qs)
 
--- ---- earlier: at pair i, `entries` are those of the pairs before
-pub record Walked (n s : ℕ) (ws : List ℕ) (i entries : ℕ) : Type 0 where
-  pub within : i ≤ n
-  pub left : before s (read_pairs n ws) ≡ i + before s (drop i (read_pairs n ws))
-  pub sum : entries ≡ total (take i (read_pairs n ws))
+-- ---- earlier: at chunk i, `entries` are those of the pairs before
+pub record Walked (parts : List (List ℕ)) (n s : ℕ) (ws : List ℕ) (i entries : ℕ) : Type 0 where
+  pub all : map pair_of parts ≡ read_pairs n ws
+  pub left : before s (read_pairs n ws) ≡ i + before s (map pair_of (drop i parts))
+  pub sum : entries ≡ total (take i (map pair_of parts))
 
-module _ (n s : ℕ) (ws : List ℕ) where
-  pub walked_none : Walked n s ws 0 0
+module _ (parts : List (List ℕ)) (n s : ℕ) (ws : List ℕ) where
+  pub walked_none : 2 * n ≤ length ws → parts ≡ chunks_of n ws → Walked parts n s ws 0 0
   unfolding total
-  walked_none = record { within = omega arith; left = omega arith; sum = refl }
+  walked_none h is = let e = parts_read n ws parts h is in record { all = e; left = rw e (omega arith); sum = refl }
 
-  module _ (i entries : ℕ) (w : Walked n s ws i entries) where
-    passed_at : before s (read_pairs n ws) ≡ i → ◌≡◌ {A = Passed} (record { pairs = i; entries = entries }) (passed_in s (read_pairs n ws))
-    passed_at e = rw (e, w.sum)
+  module _ (i entries : ℕ) (w : Walked parts n s ws i entries) where
+    passed_at : (m : ℕ) → m ≡ i → before s (read_pairs n ws) ≡ i → ◌≡◌ {A = Passed} (record { pairs = m; entries = entries }) (passed_in s (read_pairs n ws))
+    passed_at m k e = rw (k, e, w.sum, w.all)
 
-    pub walked_all : n ≤ i → ◌≡◌ {A = Passed} (record { pairs = i; entries = entries }) (passed_in s (read_pairs n ws))
+    pub walked_all : i ≤ length parts → length parts ≤ i → ◌≡◌ {A = Passed} (record { pairs = n; entries = entries }) (passed_in s (read_pairs n ws))
     unfolding before
-    walked_all h =
-        let l = length_read n ws in
-        let d = drop_of_length-le (read_pairs n ws) {i = i} (omega arith) in
-        passed_at (w.left ∙ rw d (omega arith))
+    walked_all low h =
+        let d = drop_of_length-le parts {i = i} h in
+        let l = sym (length-map parts pair_of) ∙ ap length w.all ∙ length_read n ws in
+        passed_at n (omega arith) (w.left ∙ rw d (omega arith))
 
-    module _ (h : i < n) where
-      here : drop i (read_pairs n ws) ≡ get_or (read_pairs n ws) i none ∷ drop (suc i) (read_pairs n ws)
-      here = let l = length_read n ws in drop-cons (read_pairs n ws) i none (omega arith)
+    module _ (h : i < length parts) where
+      abbrev this : List ℕ
+      this = get_or parts i []
 
-      pub walked_stop : s ≤ get_or ws (2 * i) 0 → ◌≡◌ {A = Passed} (record { pairs = i; entries = entries }) (passed_in s (read_pairs n ws))
+      here : drop i parts ≡ this ∷ drop (suc i) parts
+      here = drop-cons parts i [] h
+
+      pub walked_stop : s ≤ get_or this 0 0 → ◌≡◌ {A = Passed} (record { pairs = i; entries = entries }) (passed_in s (read_pairs n ws))
       unfolding before
-      walked_stop g =
-          let e = le-leb s (get_or (read_pairs n ws) i none).second (let k = second_word n i ws h in omega arith) in
-          passed_at (w.left ∙ rw (here, e) (omega arith))
+      walked_stop g = let e = le-leb s (get_or this 0 0) g in passed_at i refl (w.left ∙ rw (here, e) (omega arith))
 
-      pub sum_on : entries + get_or ws (2 * i + 1) 0 ≡ total (take (suc i) (read_pairs n ws))
+      pub sum_on : entries + get_or this 1 0 ≡ total (take (suc i) (map pair_of parts))
       unfolding total
       sum_on =
-          let l = length_read n ws in
-          let k = count_word n i ws h in
+          let l : i < length (map pair_of parts) = rw length-map h in
+          let k = get_or-map pair_of parts i [] in
           let t = w.sum in
-          rw (take-suc (read_pairs n ws) i none (omega arith), total_append) (omega arith)
+          rw (take-suc (map pair_of parts) i (pair_of []) l, total_append, k) (omega arith)
 
-      pub sum_fits : (m : ℕ) → total (read_pairs n ws) ≤ m → entries + get_or ws (2 * i + 1) 0 ≤ m
-      sum_fits m g = let k = total_part (suc i) (read_pairs n ws) in let t = sum_on in omega arith
+      pub sum_fits : (m : ℕ) → total (read_pairs n ws) ≤ m → entries + get_or this 1 0 ≤ m
+      sum_fits m g = let k = total_part (suc i) (map pair_of parts) in let t = sum_on in let e = ap total w.all in omega arith
 
-      pub walked_on : get_or ws (2 * i) 0 < s → Walked n s ws (i + 1) (entries + get_or ws (2 * i + 1) 0)
+      pub walked_on : get_or this 0 0 < s → Walked parts n s ws (i + 1) (entries + get_or this 1 0)
       unfolding before
       walked_on g =
-          let e = lt-leb s (get_or (read_pairs n ws) i none).second (let k = second_word n i ws h in omega arith) in
+          let e = lt-leb s (get_or this 0 0) g in
           let f = rw (here, e) at w.left in
-          record { within = omega arith; left = rw add-one (f ∙ omega arith); sum = rw (add-one i) sum_on }
+          record { all = w.all; left = rw add-one (f ∙ omega arith); sum = rw (add-one i) sum_on }
 
 -- ---- has_second and count
 pub second_none : (s k : ℕ) (qs : List Pair) → length qs ≤ k → false ≡ second_at s k qs
@@ -110,6 +135,14 @@ unfolding second_at
 second_is s k [] h = absurd (omega arith)
 second_is s zero (q ∷ qs) h = refl
 second_is s (suc k) (q ∷ qs) h = second_is s k qs (omega arith)
+
+pub second_past : (n s k : ℕ) (ws : List ℕ) → n ≤ k → false ≡ second_at s k (read_pairs n ws)
+second_past n s k ws h = second_none s k (read_pairs n ws) (let l = length_read n ws in omega arith)
+
+pub second_here : (n s k : ℕ) (ws : List ℕ) → k < n → eqb (get_or ws (2 * k) 0) s ≡ second_at s k (read_pairs n ws)
+second_here n s k ws h =
+    let w = second_word n k ws h in
+    rw w (second_is s k (read_pairs n ws) (let l = length_read n ws in omega arith))
 
 pub count_is : (k : ℕ) (qs : List Pair) → k < length qs → (get_or qs k none).count ≡ count_at k qs
 unfolding count_at
@@ -127,9 +160,9 @@ flat_taken n ws h =
     let l : length (flat pair_words qs) ≡ 2 * n = length_pairs qs ∙ rw length_read in
     sym (take_at (flat pair_words qs) (drop (2 * n) ws) (2 * n) l) ∙ ap (take (2 * n)) (flat_read n ws h)
 
-pub lists : (n : ℕ) (ws out : List ℕ) {ys : List ℕ} → 2 * n ≤ length ws → ys ≡ take (2 * n - 0) ws
-    → ys ++ drop (2 * n - 0) out ≡ flat pair_words (read_pairs n ws) ++ drop (2 * n) out
-lists n ws out h is = let z : 2 * n - 0 ≡ 2 * n = omega arith in rw (is, z, flat_taken n ws h)
+pub lists : (n : ℕ) (ws out ys : List ℕ) → 2 * n ≤ length ws → ys ≡ take (2 * n) ws
+    → ys ++ drop (2 * n) out ≡ flat pair_words (read_pairs n ws) ++ drop (2 * n) out
+lists n ws out ys h is = rw (is, flat_taken n ws h)
 
 -- ---- raise and lower
 pub raise_word : (k : ℕ) (qs : List Pair) (past : List ℕ) → k < length qs
@@ -174,36 +207,39 @@ new_first : (s : ℕ) (qs : List Pair) (u : List ℕ) → u ++ flat pair_words (
 unfolding flat
 new_first s qs u = refl
 
-module _ (n k a e b s : ℕ) (ws ys : List ℕ) (ha : a ≡ 2 * k) (he : e ≡ 2 * n + 2) (hb : b ≡ a + 1)
-    (is_up : ys ≡ take 2 (mid_of a (e - a) ws) ++ take (length (mid_of a (e - a) ws) - 2) (mid_of a (e - a) ws)) where
-  pub inserts : Turns cells_words (Takes n k) (inserted k s) (λ x. tt {0}) ws (set (set (put_mid a (e - a) ws ys) a s) b 1) (tt {0})
-  inserts = record { does = λ x ok is. (moved x ok is, refl) }
-    where
-      moved : (x : Cells) → Takes n k x → ws ≡ cells_words x → set (set (put_mid a (e - a) ws ys) a s) b 1 ≡ cells_words (inserted k s x)
-      moved x ok is =
-          let l = ok.many in
-          let kn = ok.below in
-          let room = ok.room in
-          let u = flat pair_words (take k x.pairs) in
-          let v = flat pair_words (drop k x.pairs) in
-          let m = v ++ take 2 x.past in
-          let lu : length u ≡ a = length_pairs (take k x.pairs) ∙ rw (length-take-le k x.pairs (omega arith)) (omega arith) in
-          let lv : length v ≡ 2 * (n - k) = length_pairs (drop k x.pairs) ∙ rw (length-drop, l) in
-          let lt = length-take-le 2 x.past room in
-          let lm : length m ≡ e - a = length-append v (take 2 x.past) ∙ omega arith in
-          let w : ws ≡ u ++ (m ++ drop 2 x.past) =
-          is ∙ ap (λ (z : List ℕ). z ++ x.past) (flat_cut k x.pairs) ∙ append_assoc u v x.past
-          ∙ ap (λ (z : List ℕ). u ++ z) (ap (λ (z : List ℕ). v ++ z) (sym (take-append-drop 2 x.past)) ∙ sym (append_assoc v (take 2 x.past) (drop 2 x.past))) in
-          let mid : mid_of a (e - a) ws ≡ m = ap (mid_of a (e - a)) w ∙ mid_of_append u m (drop 2 x.past) a (e - a) lu lm in
-          let d : length m - 2 ≡ length v = omega arith in
-          let y : ys ≡ take 2 m ++ v = is_up ∙ rw (mid, d) (ap (λ (z : List ℕ). take 2 m ++ z) (take_at v (take 2 x.past) (length v) refl)) in
-          let p : put_mid a (e - a) ws ys ≡ u ++ (take 2 m ++ (v ++ drop 2 x.past)) =
-          ap₂ (put_mid a (e - a)) w y ∙ put_of u m (drop 2 x.past) (take 2 m ++ v) a (e - a) lu lm
-          ∙ ap (λ (z : List ℕ). u ++ z) (append_assoc (take 2 m) v (drop 2 x.past)) in
-          let q : flat pair_words (insert_at k s x.pairs) ≡ u ++ (s ∷ 1 ∷ v) = flat_append pair_words (take k x.pairs)
-          (record { second = s; count = 1 } ∷ drop k x.pairs) ∙ new_first s (drop k x.pairs) u in
-          let t : flat pair_words (insert_at k s x.pairs) ++ drop 2 x.past ≡ u ++ (s ∷ 1 ∷ (v ++ drop 2 x.past)) = rw q (append_assoc u (s ∷ 1 ∷ v) (drop 2 x.past)) in
-          ap (λ (z : List ℕ). set (set z a s) b 1) p ∙ two_over u m (v ++ drop 2 x.past) a b s lu hb (omega arith) ∙ sym t
+-- after k pairs the others move up by one
+moved_up : (u v past : List ℕ) (a e : ℕ) → length u ≡ a → length v ≡ e - a → a ≤ e
+    → copy_within (u ++ (v ++ past)) a e (a + 2) ≡ u ++ (take 2 (v ++ past) ++ (v ++ drop 2 past))
+moved_up u v past a e lu lv h =
+    let d = drop_at u (v ++ past) a lu in
+    let t = take_at v past (e - a) lv in
+    let f : a + 2 ≡ length u + 2 = omega arith in
+    let x : take (a + 2) (u ++ (v ++ past)) ≡ u ++ take 2 (v ++ past) = rw f (take-append-add u (v ++ past) 2) in
+    let g : a + 2 + (e - a) ≡ length u + (length v + 2) = omega arith in
+    let y : drop (a + 2 + (e - a)) (u ++ (v ++ past)) ≡ drop 2 past =
+    rw g (drop-append-add u (v ++ past) (length v + 2) ∙ drop-append-add v past 2) in
+    rw (x, y, d, t) (append_assoc (u ++ take 2 (v ++ past)) v (drop 2 past) ∙ append_assoc u (take 2 (v ++ past)) (v ++ drop 2 past))
+
+pub inserts : (n k s : ℕ) (ws ys : List ℕ) → ys ≡ copy_within ws (2 * k) (2 * n) (2 * k + 2)
+    → Turns cells_words (Takes n k) (inserted k s) (λ x. tt {0}) ws (set (set ys (2 * k) s) (2 * k + 1) 1) (tt {0})
+inserts n k s ws ys moved = record { does = λ x ok is. (turned x ok is, refl) }
+  where
+    turned : (x : Cells) → Takes n k x → ws ≡ cells_words x → set (set ys (2 * k) s) (2 * k + 1) 1 ≡ cells_words (inserted k s x)
+    turned x ok is =
+        let l = ok.many in
+        let kn = ok.below in
+        let room = ok.room in
+        let u = flat pair_words (take k x.pairs) in
+        let v = flat pair_words (drop k x.pairs) in
+        let lu : length u ≡ 2 * k = length_pairs (take k x.pairs) ∙ rw (length-take-le k x.pairs (omega arith)) (omega arith) in
+        let lv : length v ≡ 2 * n - 2 * k = length_pairs (drop k x.pairs) ∙ rw (length-drop, l) (omega arith) in
+        let w : ws ≡ u ++ (v ++ x.past) = is ∙ ap (λ (z : List ℕ). z ++ x.past) (flat_cut k x.pairs) ∙ append_assoc u v x.past in
+        let p = moved ∙ ap (λ (z : List ℕ). copy_within z (2 * k) (2 * n) (2 * k + 2)) w ∙ moved_up u v x.past (2 * k) (2 * n) lu lv (omega arith) in
+        let q : flat pair_words (insert_at k s x.pairs) ≡ u ++ (s ∷ 1 ∷ v) = flat_append pair_words (take k x.pairs)
+        (record { second = s; count = 1 } ∷ drop k x.pairs) ∙ new_first s (drop k x.pairs) u in
+        let t : flat pair_words (insert_at k s x.pairs) ++ drop 2 x.past ≡ u ++ (s ∷ 1 ∷ (v ++ drop 2 x.past)) = rw q (append_assoc u (s ∷ 1 ∷ v) (drop 2 x.past)) in
+        let some : 2 ≤ length (v ++ x.past) = rw length-append (omega arith) in
+        ap (λ (z : List ℕ). set (set z (2 * k) s) (2 * k + 1) 1) p ∙ two_over u (v ++ x.past) (v ++ drop 2 x.past) (2 * k) (2 * k + 1) s lu refl some ∙ sym t
 
 -- ---- remove
 module _ (n k m a e d : ℕ) (ws ys : List ℕ) (ha : a ≡ 2 * k) (he : e ≡ 2 * n) (hd : d ≡ 2 * m)

@@ -1,13 +1,16 @@
 -- A register as a sweep would leave it, read without one. Assumes nothing.
 use Prim.Native.Nat.{ℕ, ◌+◌, ◌-◌, ◌^◌, ◌≤◌, ◌<◌, max}
 use native.Mathlib.Omega.{arith}
+use native.Mathlib.Numerals.{add-one}
 use native.Mathlib.Nat.{pow-le-pow_right}
 use mathlib.Core.Path.{◌≡◌, refl, sym, ap, subst, ◌∙◌}
-use mathlib.Core.Bool.{Bool, true, false, cond, not, ◌&&◌, ◌||◌}
+use mathlib.Core.Bool.{Bool, true, false, cond, not, ◌||◌}
+use mathlib.Core.Logic.{◌⊎◌, inl, inr}
 use mathlib.Core.List.{List, [], ◌∷◌}
-use mathlib.Core.Option.{Option, none, some}
-use lib.Dec.{leb, ltb, eqb}
-use lib.ListN.{get_or}
+use Rattle.std.proofs.Math.Option.{Option as Floored, none, some}
+use lib.Dec.{leb, ltb}
+use lib.ListN.{get_or, drop, drop_of_length-le}
+use lib.Seq.{drop-cons}
 use borrow.Author.Tests.{leb-true, leb-false, le-leb, lt-leb, le-ltb, ltb-true, ltb-false}
 use borrow.Rule.Slice.PartMut.{mid_of}
 use Rattle.runs.proofs.Cases.{by_test, both_true, each_true, no}
@@ -24,76 +27,103 @@ use Rattle.model.specs.Settings.{ring_of, power_of_two, window_fit, usable_fit}
 use Rattle.model.specs.Class.{pick, each}
 use Rattle.model.specs.Generation.{as_read}
 use Rattle.model.specs.Register.{Ring, Register, visits, sweep_ring, swept_to, through_of, sweep_rings, sweep}
-use Rattle.model.specs.RegisterWords.{floor_flag, floor_word, register_form}
+use Rattle.model.specs.RegisterWords.{register_form}
+use Rattle.model.specs.Optional.{optional}
 use Rattle.model.specs.Judge.{Ask, bucket_of, window_for, in_window, front_past}
 use Rattle.model.specs.Reason.{first_rule}
 use Rattle.model.proofs.Growth.{exponent}
-use Rattle.generation.specs.declared.Dropped.{Dropped}
-use Rattle.generation.specs.declared.Dropped.TheVariants.{Nothing, Newest}
+use Rattle.std.specs.Prelude.{Option, Some, None}
+use Rattle.std.specs.Ordering.{nat_cmp, ord_max}
+use Rattle.std.specs.Option.{MatchOption, option_cmp}
+use Rattle.generation.specs.Rules.{went}
+use Rattle.ring.proofs.Sweeping.{newest_is}
+use Rattle.ring.specs.declared.Buckets.{Buckets}
 use Rattle.ring.specs.Ring.{RingReads}
-use Rattle.ring.specs.Sweep.{swept_ring, swept_says, raised_by, Visits, holds_after, room_after}
+use Rattle.ring.specs.Sweep.{swept_ring, swept_says, newest_of, raised_by, Visits, holds_after, room_after}
 use Rattle.register.specs.declared.extents.RingExtent.{RingExtent}
-use Rattle.register.specs.declared.peeking.HeldIn.{HeldIn}
-use Rattle.register.specs.declared.peeking.HeldIn.TheVariants.{Nobody, By}
 use Rattle.register.specs.declared.peeking.Seen.{Seen}
-use Rattle.register.specs.Seen.{seen_floor, Sees, seen_raised, seen_raised_by, newest_of_class, seen_rings, floor_there, seen_as, swept_from, seen_by}
+use Rattle.register.specs.Seen.{floor_of, seen_floor, Sees, seen_raised, seen_raised_by, newest_of_class, seen_rings, seen_as, swept_from, seen_by}
 use Rattle.register.specs.Seen.{left_by, class_holds, holder_left, late_rule, judge_rule, room_left}
 use Rattle.register.specs.Words.{RegisterWords, RegisterReads, RingAt}
 use Rattle.register.proofs.InRings.{ring_reads}
 use Rattle.register.proofs.Sweeps.{all_three, idle, back, on}
 
--- ---- the floor that was seen
-pub under_seen : (present : Bool) (stamp floor : ℕ) → (present && leb stamp floor) ≡ under stamp (cond present (some floor) none)
+-- ---- the floor that was seen: whether a stamp is at or below it
+pub under_seen : (f : Option ℕ) (stamp : ℕ) (r : Bool) → MatchOption f (r ≡ false) (λ x. r ≡ leb stamp x) → r ≡ under stamp (floor_of f)
 unfolding under
-under_seen true stamp floor = refl
-under_seen false stamp floor = refl
+under_seen None stamp r h = h
+under_seen (Some x) stamp r h = h
 
-module _ (stamp : ℕ) (s : Seen) (low : Bool) (t : low ≡ under stamp (seen_floor s)) where
-  pub raised_stays : low ≡ true → s ≡ seen_raised stamp s
-  unfolding seen_raised
-  raised_stays e = rw (sym t ∙ e)
+-- raised by what would go it is the larger, and the floor that the rules raise
+raised_newest : (b : Buckets) (f d : Option ℕ)
+    → record { buckets = b; floor = newest_of f d } ≡ seen_raised_by d (record { buckets = b; floor = f })
+unfolding seen_raised under
+raised_newest b None None = refl
+raised_newest b (Some n) None = refl
+raised_newest b None (Some m) = refl
+raised_newest b (Some n) (Some m) =
+    let has : ℕ → Seen = λ k. record { buckets = b; floor = Some k } in
+    by_test (leb m n)
+    (λ e. let k : max n m ≡ n = let h = leb-true m n e in omega arith in rw e (ap has k))
+    (λ e. let k : max n m ≡ m = let h = leb-false m n e in omega arith in rw e (ap has k))
 
-  pub raised_moves : low ≡ false → record { from = s.from; through = s.through; present = true; floor = stamp } ≡ seen_raised stamp s
-  unfolding seen_raised
-  raised_moves e = rw (sym t ∙ e)
+raised_floor : (d : Option ℕ) (f : Floored ℕ) → newest_of (went f) d ≡ went (raised_by d f)
+unfolding raise
+raised_floor None none = refl
+raised_floor None (some n) = refl
+raised_floor (Some m) none = refl
+raised_floor (Some m) (some n) = refl
 
-pub raised_newest : (d : Dropped) (s r : Seen) (stamp : ℕ) → d ≡ Newest stamp → r ≡ seen_raised stamp s → r ≡ seen_raised_by d s
-raised_newest d s r stamp e q = rw e q
-
--- raised by what would go, it is the floor that the rules raise
-raised_seen : (from through stamp : ℕ) (f : Option ℕ) → seen_raised stamp (seen_as from through f) ≡ seen_as from through (raise f stamp)
-unfolding seen_raised raise under
-raised_seen from through stamp none = refl
-raised_seen from through stamp (some f) =
-    by_test (leb stamp f)
-    (λ e. let k : f ≡ max f stamp = let h = leb-true stamp f e in omega arith in rw e (ap (λ (n : ℕ). seen_as from through (some n)) k))
-    (λ e. let k : stamp ≡ max f stamp = let h = leb-false stamp f e in omega arith in rw e (ap (λ (n : ℕ). seen_as from through (some n)) k))
-
-raised_seen_by : (from through : ℕ) (d : Dropped) (f : Option ℕ) → seen_raised_by d (seen_as from through f) ≡ seen_as from through (raised_by d f)
-raised_seen_by from through Nothing f = refl
-raised_seen_by from through (Newest stamp) f = raised_seen from through stamp f
+raised_seen_by : (from through : ℕ) (d : Option ℕ) (f : Floored ℕ) → seen_raised_by d (seen_as from through f) ≡ seen_as from through (raised_by d f)
+raised_seen_by from through d f =
+    let b : Buckets = record { from = record { 0 = from }; through = record { 0 = through } } in
+    sym (raised_newest b (went f) d) ∙ ap (λ (x : Option ℕ). record { buckets = b; floor = x }) (raised_floor d f)
 
 -- ---- a class's ring, and the three
 module _ (u : Usable) (c : Class) (p : RingExtent) (l : RingAt u c p) where
-  pub class_newest : (from through : ℕ) (ws : List ℕ) (d : Dropped)
-      → RingReads p.slots p.ring (swept_says from through) (mid_of p.start (p.end - p.start) ws) d
+  pub class_newest : (from through : ℕ) (ws : List ℕ) (d : Option ℕ)
+      → RingReads p.shape.slots p.shape.ring (swept_says from through) (mid_of p.start (p.end - p.start) ws) d
       → RegisterReads u (newest_of_class c from through) ws d
   unfolding newest_of_class
   class_newest from through ws d t = ring_reads u c p l t
 
-pub three_newest : (u : Usable) (s : Seen) (ws : List ℕ) (f p o : Dropped) (a b r : Seen)
-    → RegisterReads u (newest_of_class Feeders s.from.0 s.through.0) ws f → RegisterReads u (newest_of_class Peers s.from.0 s.through.0) ws p
-    → RegisterReads u (newest_of_class Own s.from.0 s.through.0) ws o
-    → a ≡ seen_raised_by f s → b ≡ seen_raised_by p a → r ≡ seen_raised_by o b → RegisterReads u (seen_rings s) ws r
-unfolding seen_rings
-three_newest u s ws f p o a b r x y z d e g = record {
-  says = λ reg ok is. g ∙ rw (e, d, x.says reg ok is, y.says reg ok is, z.says reg ok is);
-}
+abbrev pub classes : List Class
+classes = Feeders ∷ Peers ∷ Own ∷ []
+
+-- the floor raised by what would go of each class in turn: the loop is at class i
+unfoldable pub raised_among : (Class → Option ℕ) → List Class → Seen → Seen
+raised_among newest [] s = s
+raised_among newest (c ∷ cs) s = raised_among newest cs (seen_raised_by (newest c) s)
+
+module _ (u : Usable) (s : Seen) (ws : List ℕ) where
+  pub record Raised (i : ℕ) (floor : Option ℕ) : Type 0 where
+    pub left : (reg : Register) → (register_form u).Ok reg → ws ≡ (register_form u).enc reg
+        → raised_among (λ c. newest_of_class c s.buckets.from.0 s.buckets.through.0 reg) (drop i classes) (record { buckets = s.buckets; floor = floor }) ≡ seen_rings s reg
+
+  pub raised_start : Raised 0 s.floor
+  unfolding seen_rings raised_among
+  raised_start = record { left = λ reg ok is. refl }
+
+  module _ (i : ℕ) (floor : Option ℕ) (at : Raised i floor) where
+    pub raised_on : i < 3 → (more next : Option ℕ)
+        → RegisterReads u (newest_of_class (get_or classes i Feeders) s.buckets.from.0 s.buckets.through.0) ws more
+        → next ≡ ord_max (option_cmp nat_cmp) floor more → Raised (i + 1) next
+    unfolding raised_among
+    raised_on h more next r e = record {
+      left = λ reg ok is.
+          let q : next ≡ newest_of floor more = e ∙ newest_is floor more in
+          let here = rw (drop-cons classes i Feeders h, ← r.says reg ok is) at (at.left reg ok is) in
+          rw (add-one, q, raised_newest s.buckets floor more) here;
+    }
+
+    pub raised_end : 3 ≤ i → RegisterReads u (seen_rings s) ws (record { buckets = s.buckets; floor = floor })
+    unfolding raised_among
+    raised_end h = record { says = λ reg ok is. rw (drop_of_length-le classes {i = i} h) at (at.left reg ok is) }
 
 -- ---- what is seen at a reading
-flag_there : (f : Option ℕ) → eqb (floor_flag f) 1 ≡ floor_there f
-flag_there none = refl
-flag_there (some f) = refl
+is_went : (f : Floored ℕ) → optional f ≡ went f
+is_went none = refl
+is_went (some f) = refl
 
 module _ (u : Usable) (ms : ℕ) (reg : Register) where
   -- nothing is visited, and the floor stays
@@ -127,31 +157,29 @@ rings_raise u from through reg =
     )
     (ap (λ (x : Register). seen_as from through x.floor) (all_three u from through reg))
 
-module _ (u : Usable) (ms : ℕ) (ws : List ℕ) (through : ℕ) (e : through ≡ through_of u ms) where
-  -- the floor's two words as they are
+module _ (u : Usable) (ms : ℕ) (ws : List ℕ) (through : ℕ) (e : through ≡ through_of u ms)
+    (floor : Option ℕ) (two : (v : Usable) → RegisterReads v (λ reg. optional reg.floor) ws floor) where
+  -- the floor as its two words have it
   abbrev still : ℕ → Seen
-  still from = record { from = record { 0 = from }; through = record { 0 = through }; present = eqb (get_or ws 8 0) 1; floor = get_or ws 9 0 }
+  still from = record { buckets = record { from = record { 0 = from }; through = record { 0 = through } }; floor = floor }
 
-  still_is : (from : ℕ) (reg : Register) → ws ≡ (register_form u).enc reg → still from ≡ seen_as from through reg.floor
-  still_is from reg is =
-      let a : eqb (get_or ws 8 0) 1 ≡ floor_there reg.floor = ap (λ (l : List ℕ). eqb (get_or l 8 0) 1) is ∙ flag_there reg.floor in
-      let b : get_or ws 9 0 ≡ floor_word reg.floor = ap (λ (l : List ℕ). get_or l 9 0) is in
-      λ i. record { from = record { 0 = from }; through = record { 0 = through }; present = a i; floor = b i }
+  still_is : (from : ℕ) (reg : Register) → (register_form u).Ok reg → ws ≡ (register_form u).enc reg → still from ≡ seen_as from through reg.floor
+  still_is from reg ok is =
+      let a = (two u).says reg ok is ∙ is_went reg.floor in
+      λ i. record { buckets = record { from = record { 0 = from }; through = record { 0 = through } }; floor = a i }
 
   module _ (pending : Bool) (p : (v : Usable) → RegisterReads v (λ reg. reg.pending) ws pending) where
     -- without a visit
-    unmoved : (reg : Register) → ws ≡ (register_form u).enc reg → (reg.pending || leb through reg.swept) ≡ true → still through ≡ seen_by u ms reg
-    unmoved reg is t = still_is through reg is ∙ rw e (unvisited u ms reg (rw e at t))
+    unmoved : (reg : Register) → (register_form u).Ok reg → ws ≡ (register_form u).enc reg → (reg.pending || leb through reg.swept) ≡ true → still through ≡ seen_by u ms reg
+    unmoved reg ok is t = still_is through reg ok is ∙ rw e (unvisited u ms reg (rw e at t))
 
-    pub seen_pending : pending ≡ true → RegisterReads u (seen_by u ms) ws (still through)
-    seen_pending t = record { says = λ reg ok is. let q = sym ((p u).says reg ok is) ∙ t in unmoved reg is (rw q) }
-
-    pub seen_back : pending ≡ false → through ≤ get_or ws 6 0 → RegisterReads u (seen_by u ms) ws (still through)
-    seen_back t h = record {
+    pub seen_still : (pending ≡ true) ⊎ ((pending ≡ false) × (through ≤ get_or ws 6 0)) → RegisterReads u (seen_by u ms) ws (still through)
+    seen_still (inl t) = record { says = λ reg ok is. let q = sym ((p u).says reg ok is) ∙ t in unmoved reg ok is (rw q) }
+    seen_still (inr (t, h)) = record {
       says = λ reg ok is.
           let q = sym ((p u).says reg ok is) ∙ t in
           let s : get_or ws 6 0 ≡ reg.swept = ap (λ (l : List ℕ). get_or l 6 0) is in
-          unmoved reg is (rw (q, le-leb through reg.swept (omega arith)));
+          unmoved reg ok is (rw (q, le-leb through reg.swept (omega arith)));
     }
 
     -- with visits
@@ -163,12 +191,12 @@ module _ (u : Usable) (ms : ℕ) (ws : List ℕ) (through : ℕ) (e : through �
           let s : get_or ws 6 0 ≡ reg.swept = ap (λ (l : List ℕ). get_or l 6 0) is in
           let b : leb (through_of u ms) reg.swept ≡ false = lt-leb (through_of u ms) reg.swept (omega arith) in
           let m : from ≡ first u ms reg = rw (← s, ← e) k in
-          three.says reg ok is ∙ ap (λ (x : Seen). seen_rings x reg) (still_is from reg is) ∙ rings_raise u from through reg ∙ rw (m, e) (visited u ms reg q b);
+          three.says reg ok is ∙ ap (λ (x : Seen). seen_rings x reg) (still_is from reg ok is) ∙ rings_raise u from through reg ∙ rw (m, e) (visited u ms reg q b);
     }
 
 -- it visits no more buckets than a ring has positions
 module _ (u : Usable) (ms : ℕ) where
-  visits_few : (reg : Register) → Visits (ring_of u) (swept_from u (through_of u ms) reg) (through_of u ms)
+  visits_few : (reg : Register) → Visits (ring_of u) (seen_as (swept_from u (through_of u ms) reg) (through_of u ms) none).buckets
   visits_few reg =
       by_test (reg.pending || leb (through_of u ms) reg.swept)
       (λ e. rw e (record { up = omega arith; few = omega arith }))
@@ -187,17 +215,17 @@ module _ (u : Usable) (ms : ℕ) where
 -- ---- what would be held, and the room that there would be, in a class's ring
 module _ (u : Usable) (c : Class) (p : RingExtent) (l : RingAt u c p) (s : Seen) where
   -- what a function on the ring asks of the buckets that are visited
-  pub ring_visits : Sees u s → Visits p.ring s.from.0 s.through.0
+  pub ring_visits : Sees u s → Visits p.shape.ring s.buckets
   ring_visits v = rw l.ring v
 
   pub class_after : (b fp : ℕ) (ws : List ℕ) (r : Bool)
-      → RingReads p.slots p.ring (holds_after s.from.0 s.through.0 b fp) (mid_of p.start (p.end - p.start) ws) r
+      → RingReads p.shape.slots p.shape.ring (holds_after s.buckets b fp) (mid_of p.start (p.end - p.start) ws) r
       → RegisterReads u (class_holds s c b fp) ws r
   unfolding class_holds
   class_after b fp ws r t = ring_reads u c p l t
 
   -- the fewest slots of a generation are two
-  pub two_slots : usable_fit u ≡ true → 2 ≤ p.slots
+  pub two_slots : usable_fit u ≡ true → 2 ≤ p.shape.slots
   unfolding usable_fit
   two_slots fit =
       let q = each_true (window_fit u.origin) (window_fit u.copy ∷ between 1 60_000 u.bucket ∷ power_of_two u.slots ∷ leb (ring_of u) 256 ∷ []) fit in
@@ -206,34 +234,42 @@ module _ (u : Usable) (c : Class) (p : RingExtent) (l : RingAt u c p) (s : Seen)
       rw (l.slots, k.2) m
 
   pub room_seen : (b fp : ℕ) (ws : List ℕ) (r : Room)
-      → RingReads p.slots p.ring (room_after s.from.0 s.through.0 p.slots b fp) (mid_of p.start (p.end - p.start) ws) r
+      → RingReads p.shape.slots p.shape.ring (room_after s.buckets p.shape.slots b fp) (mid_of p.start (p.end - p.start) ws) r
       → RegisterReads u (room_left u s c b fp) ws r
   unfolding room_left
   room_seen b fp ws r t =
-      subst (λ (S : ℕ). RegisterReads u (λ reg. room_after s.from.0 s.through.0 S b fp (pick c reg.rings)) ws r) l.slots (ring_reads u c p l t)
+      subst (λ (S : ℕ). RegisterReads u (λ reg. room_after s.buckets S b fp (pick c reg.rings)) ws r) l.slots (ring_reads u c p l t)
 
--- ---- the lowest class that would hold it
-module _ (u : Usable) (s : Seen) (b fp : ℕ) (ws : List ℕ) (f : Bool) (x : RegisterReads u (class_holds s Feeders b fp) ws f) where
-  pub by_feeders : f ≡ true → RegisterReads u (holder_left s b fp) ws (By Feeders)
-  unfolding holder_left
-  by_feeders e = record { says = λ reg ok is. rw (sym (x.says reg ok is) ∙ e) }
+-- ---- the lowest class that would hold it: the loop is at class i, and none before it would
+unfoldable pub holder_among : (Class → Bool) → List Class → Option Class
+holder_among holds [] = None
+holder_among holds (c ∷ cs) = cond (holds c) (Some c) (holder_among holds cs)
 
-  module _ (p : Bool) (y : RegisterReads u (class_holds s Peers b fp) ws p) (nf : f ≡ false) where
-    pub by_peers : p ≡ true → RegisterReads u (holder_left s b fp) ws (By Peers)
-    unfolding holder_left
-    by_peers e = record { says = λ reg ok is. rw (sym (x.says reg ok is) ∙ nf, sym (y.says reg ok is) ∙ e) }
+module _ (u : Usable) (s : Seen) (b fp : ℕ) (ws : List ℕ) where
+  pub record Sought (i : ℕ) : Type 0 where
+    pub left : (reg : Register) → (register_form u).Ok reg → ws ≡ (register_form u).enc reg
+        → holder_among (λ c. class_holds s c b fp reg) (drop i classes) ≡ holder_left s b fp reg
 
-    module _ (o : Bool) (z : RegisterReads u (class_holds s Own b fp) ws o) (np : p ≡ false) where
-      pub by_own : o ≡ true → RegisterReads u (holder_left s b fp) ws (By Own)
-      unfolding holder_left
-      by_own e = record { says = λ reg ok is. rw (sym (x.says reg ok is) ∙ nf, sym (y.says reg ok is) ∙ np, sym (z.says reg ok is) ∙ e) }
+  pub sought_start : Sought 0
+  unfolding holder_left holder_among
+  sought_start = record { left = λ reg ok is. refl }
 
-      pub by_nobody : o ≡ false → RegisterReads u (holder_left s b fp) ws Nobody
-      unfolding holder_left
-      by_nobody e = record { says = λ reg ok is. rw (sym (x.says reg ok is) ∙ nf, sym (y.says reg ok is) ∙ np, sym (z.says reg ok is) ∙ e) }
+  module _ (i : ℕ) (at : Sought i) where
+    pub sought_end : 3 ≤ i → RegisterReads u (holder_left s b fp) ws None
+    unfolding holder_among
+    sought_end h = record { says = λ reg ok is. rw (drop_of_length-le classes {i = i} h) at (at.left reg ok is) }
+
+    module _ (h : i < 3) (held : Bool) (r : RegisterReads u (class_holds s (get_or classes i Feeders) b fp) ws held) where
+      pub sought_here : held ≡ true → RegisterReads u (holder_left s b fp) ws (Some (get_or classes i Feeders))
+      unfolding holder_among
+      sought_here e = record { says = λ reg ok is. rw (drop-cons classes i Feeders h, sym (r.says reg ok is) ∙ e) at (at.left reg ok is) }
+
+      pub sought_on : held ≡ false → Sought (i + 1)
+      unfolding holder_among
+      sought_on e = record { left = λ reg ok is. rw add-one (rw (drop-cons classes i Feeders h, sym (r.says reg ok is) ∙ e) at (at.left reg ok is)) }
 
 -- ---- the floor and the window
-module _ (u : Usable) (floor : Option ℕ) (a : Ask) (low : Bool) (t : low ≡ under a.stamp floor) where
+module _ (u : Usable) (floor : Floored ℕ) (a : Ask) (low : Bool) (t : low ≡ under a.stamp floor) where
   pub late_floor : low ≡ true → Floor ≡ late_rule u floor a
   unfolding late_rule first_rule first_of
   late_floor e = rw (sym t ∙ e)
@@ -267,9 +303,9 @@ module _ (u : Usable) (floor : Option ℕ) (a : Ask) (low : Bool) (t : low ≡ u
         no (cc))
 
 -- ---- the rules of judge
-unfoldable by_holder : HeldIn → Reason → Reason
-by_holder (By c) x = Held c
-by_holder Nobody x = x
+unfoldable by_holder : Option Class → Reason → Reason
+by_holder (Some c) x = Held c
+by_holder None x = x
 
 held_first : (u : Usable) (s : Seen) (a : Ask) (reg : Register)
     → judge_rule u s a reg ≡ cond reg.pending Pending (cond (not a.judging) Flag
@@ -290,23 +326,23 @@ module _ (u : Usable) (s : Seen) (a : Ask) (ws : List ℕ) (pending : Bool) (p :
     pub rule_flag : not a.judging ≡ true → RegisterReads u (judge_rule u s a) ws Flag
     rule_flag e = record { says = λ reg ok is. sym (held_first u s a reg ∙ rw (sym ((p u).says reg ok is) ∙ begun, e)) }
 
-    module _ (judging : not a.judging ≡ false) (b fp : ℕ) (bucket : b ≡ bucket_of u a.stamp) (print : fp ≡ as_read a.fp) (h : HeldIn)
+    module _ (judging : not a.judging ≡ false) (b fp : ℕ) (bucket : b ≡ bucket_of u a.stamp) (print : fp ≡ as_read a.fp) (h : Option Class)
         (held : RegisterReads u (holder_left s b fp) ws h) where
       holder_is : (reg : Register) → (register_form u).Ok reg → ws ≡ (register_form u).enc reg → by_holder h (late_rule u (seen_floor s) a) ≡ judge_rule u s a reg
       holder_is reg ok is =
           let q : h ≡ holder_left s (bucket_of u a.stamp) (as_read a.fp) reg = rw (← bucket, ← print) (held.says reg ok is) in
-          ap (λ (x : HeldIn). by_holder x (late_rule u (seen_floor s) a)) q ∙ sym (held_first u s a reg ∙ rw (sym ((p u).says reg ok is) ∙ begun, judging))
+          ap (λ (x : Option Class). by_holder x (late_rule u (seen_floor s) a)) q ∙ sym (held_first u s a reg ∙ rw (sym ((p u).says reg ok is) ∙ begun, judging))
 
-      pub rule_held : (c : Class) → h ≡ By c → RegisterReads u (judge_rule u s a) ws (Held c)
+      pub rule_held : (c : Class) → h ≡ Some c → RegisterReads u (judge_rule u s a) ws (Held c)
       unfolding by_holder
       rule_held c e = record { says = λ reg ok is. rw e at (holder_is reg ok is) }
 
-      pub rule_late : (r : Reason) → h ≡ Nobody → r ≡ late_rule u (seen_floor s) a → RegisterReads u (judge_rule u s a) ws r
+      pub rule_late : (r : Reason) → h ≡ None → r ≡ late_rule u (seen_floor s) a → RegisterReads u (judge_rule u s a) ws r
       unfolding by_holder
       rule_late r e q = record { says = λ reg ok is. q ∙ (rw e at (holder_is reg ok is)) }
 
 -- ---- what was seen of a register leaves it as its sweep does
-floor_seen : (from through : ℕ) (f : Option ℕ) → seen_floor (seen_as from through f) ≡ f
+floor_seen : (from through : ℕ) (f : Floored ℕ) → seen_floor (seen_as from through f) ≡ f
 floor_seen from through none = refl
 floor_seen from through (some f) = refl
 

@@ -2,7 +2,7 @@
 use Prim.Native.Nat.{ℕ, ◌-◌, max}
 use native.Mathlib.Omega.{arith}
 use mathlib.Core.Path.{◌≡◌, refl, ap}
-use mathlib.Core.Option.{Option, none, some}
+use Rattle.std.proofs.Math.Option.{Option as Floored, none, some}
 use mathlib.Core.List.{List}
 use lib.Dec.{eqb}
 use borrow.Author.Tests.{eqb-true}
@@ -23,7 +23,7 @@ use Rattle.model.specs.Dump.{drop_bucket, dropped_newest, failed}
 use Rattle.model.proofs.Bounds.{ring_positive}
 use Rattle.model.proofs.Growth.{ok_ways}
 use Rattle.model.proofs.RingsKept.{RingOk, from_form, to_form, swapped_ok, drop_ok, at_ok}
-use Rattle.generation.specs.declared.Dropped.{Dropped}
+use Rattle.std.specs.Prelude.{Option}
 use Rattle.ring.specs.Ring.{RingTurns, drop_bucket_says}
 use Rattle.ring.specs.Sweep.{raised_by}
 use Rattle.register.specs.Rules.{raised_with, failed_at}
@@ -32,12 +32,12 @@ use Rattle.register.specs.Words.{RegisterWords, RegisterTurns, RingAt}
 use Rattle.register.proofs.InRings.{ring_turns, still_words}
 
 -- ---- a floor raised twice is raised to the larger of the two
-raise_both : (f : Option ℕ) (n m : ℕ) → raise (raise f n) m ≡ raise f (max m n)
+raise_both : (f : Floored ℕ) (n m : ℕ) → raise (raise f n) m ≡ raise f (max m n)
 unfolding raise
 raise_both none n m = let k : max n m ≡ max m n = omega arith in ap some k
 raise_both (some f) n m = let k : max (max f n) m ≡ max f (max m n) = omega arith in ap some k
 
-raise_zero : (f : Option ℕ) (n w : ℕ) → w ≡ 0 → raise f n ≡ raise f (max n w)
+raise_zero : (f : Floored ℕ) (n w : ℕ) → w ≡ 0 → raise f n ≡ raise f (max n w)
 raise_zero f n w z = let k : n ≡ max n w = omega arith in ap (raise f) k
 
 -- a generation that holds nothing has no newest stamp
@@ -47,7 +47,7 @@ held_none S n i g ok z = ok_ways S n i g ok (λ e zero. zero) (λ power some few
 -- ---- a generation that failed
 module _ (u : Usable) (c : Class) (b newest : ℕ) where
   -- by what went, and then to the dump's newest, is to the larger of both
-  both_raised : (f : Option ℕ) (ring : Ring) → RingOk u ring
+  both_raised : (f : Floored ℕ) (ring : Ring) → RingOk u ring
       → raise (raised_by (drop_bucket_says b ring) f) newest ≡ raise f (max newest (dropped_newest b ring))
   unfolding dropped_newest
   both_raised f ring ok =
@@ -75,9 +75,9 @@ module _ (u : Usable) (c : Class) (b newest : ℕ) where
       → raised newest (raised_with (drop_bucket_says b (pick c reg.rings)) (in_ring c (drop_bucket b) reg)) ≡ failed_at c b newest reg
   unfolding failed
   failed_is reg ok =
-      ap (λ (f : Option ℕ). with_floor f (in_ring c (drop_bucket b) reg)) (both_raised reg.floor (pick c reg.rings) ((from_form u reg ok).rings c))
+      ap (λ (f : Floored ℕ). with_floor f (in_ring c (drop_bucket b) reg)) (both_raised reg.floor (pick c reg.rings) ((from_form u reg ok).rings c))
 
-  fail_turns : (ws mid past last : List ℕ) (d : Dropped)
+  fail_turns : (ws mid past last : List ℕ) (d : Option ℕ)
       → RegisterTurns u (in_ring c (drop_bucket b)) (λ reg. drop_bucket_says b (pick c reg.rings)) ws mid d
       → RegisterTurns u (raised_with d) silent mid past (tt {0}) → RegisterTurns u (raised newest) silent past last (tt {0})
       → RegisterTurns u (failed_at c b newest) silent ws last (tt {0})
@@ -86,8 +86,8 @@ module _ (u : Usable) (c : Class) (b newest : ℕ) where
       (λ reg ok is r. (ap (register_form u).enc (failed_is reg ok), refl))
 
   -- ---- the drop in the ring's part, and the two raises of the register's
-  module _ (p : RingExtent) (l : RingAt u c p) (ws part past last : List ℕ) (d : Dropped) (w : RegisterWords u ws)
-      (one : RingTurns p.slots p.ring (drop_bucket b) (drop_bucket_says b) (mid_of p.start (p.end - p.start) ws) part d)
+  module _ (p : RingExtent) (l : RingAt u c p) (ws part past last : List ℕ) (d : Option ℕ) (w : RegisterWords u ws)
+      (one : RingTurns p.shape.slots p.shape.ring (drop_bucket b) (drop_bucket_says b) (mid_of p.start (p.end - p.start) ws) part d)
       (two : (u : Usable) → RegisterTurns u (raised_with d) silent (put_mid p.start (p.end - p.start) ws part) past (tt {0}))
       (three : (u : Usable) → RegisterTurns u (raised newest) silent past last (tt {0})) where
     pub fails : RegisterWords u last × RegisterTurns u (failed_at c b newest) silent ws last (tt {0})

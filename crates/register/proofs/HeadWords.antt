@@ -4,50 +4,48 @@ use native.Mathlib.Omega.{arith}
 use mathlib.Core.Path.{◌≡◌, refl, sym, ap, ◌∙◌}
 use mathlib.Core.Bool.{Bool, true, false, cond, ◌&&◌}
 use mathlib.Core.List.{List}
-use mathlib.Core.Option.{Option, none, some}
+use Rattle.std.proofs.Math.Option.{Option as Floored, none, some}
 use lib.Dec.{leb, eqb}
 use lib.ListN.{set}
 use borrow.Author.Tests.{eq-eqb, ne_eqb, leb-true, leb-false}
 use Rattle.runs.proofs.Cases.{by_test, no}
 use Rattle.runs.specs.Turns.{silent}
-use Rattle.model.specs.declared.Answer.{Answer}
-use Rattle.model.specs.declared.Answer.TheVariants.{NoFloor, FloorAt, Begun, Already}
+use Rattle.std.proofs.Common.{Some, None}
 use Rattle.model.specs.declared.Usable.{Usable}
 use Rattle.model.specs.Numbers.{raise, under}
 use Rattle.model.specs.Register.{Register, with_floor, raised, swept_to, published, begin}
 use Rattle.model.specs.RegisterWords.{floor_flag, floor_word, read_floor, read_heading, register_form}
 use Rattle.model.specs.Dump.{raised_to_dumped}
-use Rattle.model.specs.Calls.{floor_answer}
+use Rattle.model.specs.Optional.{optional}
 use Rattle.model.proofs.RegisterWords.{flag_read}
-use Rattle.generation.specs.declared.Dropped.{Dropped}
-use Rattle.generation.specs.declared.Dropped.TheVariants.{Nothing, Newest}
+use Rattle.std.specs.Prelude.{Option, Some, None}
 use Rattle.numbers.specs.Layout.{pending_at}
 use Rattle.register.specs.Rules.{raised_with, begin_says, swept_answer, floor_gone}
 use Rattle.register.specs.Heading.{published_in, swept_in, sweep_stored, floor_stored, floor_raised, floor_raised_by, floor_dumped, begun_in, begin_told}
 use Rattle.register.specs.Words.{RegisterReads, RegisterTurns}
 
 -- ---- a floor and its two words
-floor_back : (f : Option ℕ) → read_floor (floor_flag f) (floor_word f) ≡ f
+floor_back : (f : Floored ℕ) → read_floor (floor_flag f) (floor_word f) ≡ f
 floor_back none = refl
 floor_back (some f) = refl
 
 -- what the code answers of any two words
-pub floor_there : (flag floor : ℕ) → flag ≡ 1 → FloorAt floor ≡ floor_answer (read_floor flag floor)
+pub floor_there : (flag floor : ℕ) → flag ≡ 1 → Some floor ≡ optional (read_floor flag floor)
 floor_there flag floor e = rw (eq-eqb flag 1 e)
 
-pub floor_missing : (flag floor : ℕ) → (flag ≡ 1 → ⊥) → NoFloor ≡ floor_answer (read_floor flag floor)
+pub floor_missing : (flag floor : ℕ) → (flag ≡ 1 → ⊥) → None ≡ optional (read_floor flag floor)
 floor_missing flag floor n = rw (ne_eqb flag 1 n)
 
 pub under_words : (stamp flag floor : ℕ) → (eqb flag 1 && leb stamp floor) ≡ under stamp (read_floor flag floor)
 unfolding under
 under_words stamp flag floor = by_test (eqb flag 1) (λ e. rw e) (λ e. rw e)
 
-floor_stays : (stamp : ℕ) (f : Option ℕ) → under stamp f ≡ true → f ≡ raise f stamp
+floor_stays : (stamp : ℕ) (f : Floored ℕ) → under stamp f ≡ true → f ≡ raise f stamp
 unfolding under raise
 floor_stays stamp none t = no (cc)
 floor_stays stamp (some f) t = let h = leb-true stamp f t in let e : f ≡ max f stamp = omega arith in ap some e
 
-floor_moves : (stamp : ℕ) (f : Option ℕ) → under stamp f ≡ false → some stamp ≡ raise f stamp
+floor_moves : (stamp : ℕ) (f : Floored ℕ) → under stamp f ≡ false → some stamp ≡ raise f stamp
 unfolding under raise
 floor_moves stamp none t = refl
 floor_moves stamp (some f) t = let h = leb-false stamp f t in let e : stamp ≡ max f stamp = omega arith in ap some e
@@ -64,7 +62,7 @@ module _ (u : Usable) (ws : List ℕ) where
   pending_reads = record { says = λ reg ok is. pending_read u reg ws is }
 
   -- whatever is told of the floor
-  pub floor_reads : {R : Type 0} (f : Option ℕ → R) → RegisterReads u (λ reg. f reg.floor) ws (f (read_heading ws).floor)
+  pub floor_reads : {R : Type 0} (f : Floored ℕ → R) → RegisterReads u (λ reg. f reg.floor) ws (f (read_heading ws).floor)
   floor_reads f = record { says = λ reg ok is. ap f (floor_read u reg ws is) }
 
   pub swept_reads : RegisterReads u (swept_answer u) ws (swept_in ws)
@@ -74,8 +72,8 @@ module _ (u : Usable) (ws : List ℕ) where
   published_reads = record { says = λ reg ok is. ap published_in is }
 
 -- ---- the floor raised
-with_its : (u : Usable) (reg : Register) {f g : Option ℕ} → f ≡ g → (register_form u).enc (with_floor f reg) ≡ (register_form u).enc (with_floor g reg)
-with_its u reg e = ap (λ (f : Option ℕ). (register_form u).enc (with_floor f reg)) e
+with_its : (u : Usable) (reg : Register) {f g : Floored ℕ} → f ≡ g → (register_form u).enc (with_floor f reg) ≡ (register_form u).enc (with_floor g reg)
+with_its u reg e = ap (λ (f : Floored ℕ). (register_form u).enc (with_floor f reg)) e
 
 module _ (stamp : ℕ) (ws : List ℕ) where
   pub raise_stays : under stamp (read_heading ws).floor ≡ true → ws ≡ floor_raised stamp ws
@@ -97,17 +95,14 @@ module _ (stamp : ℕ) (ws : List ℕ) where
   }
 
 -- by what a drop forgot
-module _ (d : Dropped) (ws : List ℕ) where
-  pub by_nothing : d ≡ Nothing → ws ≡ floor_raised_by d ws
-  by_nothing e = rw e
-
-  pub by_newest : (stamp : ℕ) (last : List ℕ) → d ≡ Newest stamp → last ≡ floor_raised stamp ws → last ≡ floor_raised_by d ws
+module _ (d : Option ℕ) (ws : List ℕ) where
+  pub by_newest : (stamp : ℕ) (last : List ℕ) → d ≡ Some stamp → last ≡ floor_raised stamp ws → last ≡ floor_raised_by d ws
   by_newest stamp last e a = rw e a
 
-pub by_turns : (d : Dropped) (ws : List ℕ) (u : Usable) (after : List ℕ) → after ≡ floor_raised_by d ws
+pub by_turns : (d : Option ℕ) (ws : List ℕ) (u : Usable) (after : List ℕ) → after ≡ floor_raised_by d ws
     → RegisterTurns u (raised_with d) silent ws after (tt {0})
-by_turns Nothing ws u after a = record { does = λ reg ok is. (a ∙ is, refl) }
-by_turns (Newest stamp) ws u after a = raise_turns stamp ws u after a
+by_turns None ws u after a = record { does = λ reg ok is. (a ∙ is, refl) }
+by_turns (Some stamp) ws u after a = raise_turns stamp ws u after a
 
 -- ---- swept up to a bucket
 pub sweep_turns : (u : Usable) (s : ℕ) (ws after : List ℕ) → after ≡ sweep_stored u s ws → RegisterTurns u (swept_to s) silent ws after (tt {0})
@@ -121,14 +116,14 @@ begin_idle number reg e =
     cond b (record { swept = reg.swept; floor = raise reg.floor number; pending = false; spare = reg.spare; rings = reg.rings }) reg) e)
 
 module _ (number : ℕ) (ws : List ℕ) where
-  pub begin_already : (read_heading ws).pending ≡ false → (ws ≡ begun_in number ws) × (Already ≡ begin_told ws)
-  begin_already n = (rw n, rw n)
+  pub begin_already : (read_heading ws).pending ≡ false → ws ≡ begun_in number ws
+  begin_already n = rw n
 
   pub begin_begun : (mid : List ℕ) → (read_heading ws).pending ≡ true → mid ≡ floor_raised number ws
-      → (set mid pending_at 0 ≡ begun_in number ws) × (Begun ≡ begin_told ws)
-  begin_begun mid y m = (rw (y, m), rw y)
+      → set mid pending_at 0 ≡ begun_in number ws
+  begin_begun mid y m = rw (y, m)
 
-  pub begin_turns : (u : Usable) (after : List ℕ) (r : Answer) → (after ≡ begun_in number ws) × (r ≡ begin_told ws)
+  pub begin_turns : (u : Usable) (after : List ℕ) (r : Bool) → (after ≡ begun_in number ws) × (r ≡ begin_told ws)
       → RegisterTurns u (begin number) begin_says ws after r
   unfolding begin
   begin_turns u after r a = record {

@@ -30,7 +30,7 @@ use Rattle.register.specs.Words.{RegisterWords, RegisterReads, RegisterTurns, Ri
 
 -- ---- where a class's ring lies, among rings of the register's sizes
 pub placed : (u : Usable) (c : Class) (n : Rings) (k start : ℕ) → RingsOf u n → k ≡ class_number c → start ≡ 24 + k * n.width
-    → RingAt u c (record { slots = u.slots; ring = n.ring; start = start; end = start + n.width })
+    → RingAt u c (record { shape = record { slots = u.slots; ring = n.ring }; start = start; end = start + n.width })
 placed u c n k start l e at =
     let from : start ≡ ring_start u c = rw (at, e, l.width) in
     let w = ring_within u c in
@@ -42,15 +42,15 @@ pub position_asks : (u : Usable) (n : Rings) → RingsOf u n → usable_fit u �
 position_asks u n l fit = rw l.ring (ring_positive u, (usable_few u fit).ring)
 
 module _ (u : Usable) (c : Class) (p : RingExtent) (l : RingAt u c p) where
-  pub ring_position : (n : Rings) (b i : ℕ) → RingsOf u n → PositionOf b n.ring i → PositionOf b p.ring i
+  pub ring_position : (n : Rings) (b i : ℕ) → RingsOf u n → PositionOf b n.ring i → PositionOf b p.shape.ring i
   ring_position n b i sizes q = rw (l.ring ∙ sym sizes.ring) q
 
   -- a position of the register's rings
-  pub ring_below : (i : ℕ) → i < ring_of u → i < p.ring
+  pub ring_below : (i : ℕ) → i < ring_of u → i < p.shape.ring
   ring_below i h = rw l.ring h
 
   -- what a function on the ring asks
-  pub ring_asks : (ws : List ℕ) → RegisterWords u ws → RingWords p.slots p.ring (mid_of p.start (p.end - p.start) ws)
+  pub ring_asks : (ws : List ℕ) → RegisterWords u ws → RingWords p.shape.slots p.shape.ring (mid_of p.start (p.end - p.start) ws)
   ring_asks ws w =
       let h : p.end ≤ length ws = omega (arith, w.long, l.within) in
       let k : p.end - p.start ≡ ring_width u = omega (arith, l.end) in
@@ -60,17 +60,17 @@ module _ (u : Usable) (c : Class) (p : RingExtent) (l : RingAt u c p) where
       })
 
   pub ring_reads : {R : Type 0} {out : Ring → R} {ws : List ℕ} {r : R}
-      → RingReads p.slots p.ring out (mid_of p.start (p.end - p.start) ws) r → RegisterReads u (λ reg. out (pick c reg.rings)) ws r
+      → RingReads p.shape.slots p.shape.ring out (mid_of p.start (p.end - p.start) ws) r → RegisterReads u (λ reg. out (pick c reg.rings)) ws r
   ring_reads t = part_reads (ring_part u c).lies p.start p.end l.start l.end (rw (l.slots, l.ring) at t)
 
   pub ring_turns : {R : Type 0} {f : Ring → Ring} {out : Ring → R} {ws last : List ℕ} {r : R}
-      → RingTurns p.slots p.ring f out (mid_of p.start (p.end - p.start) ws) last r
+      → RingTurns p.shape.slots p.shape.ring f out (mid_of p.start (p.end - p.start) ws) last r
       → RegisterTurns u (in_ring c f) (λ reg. out (pick c reg.rings)) ws (put_mid p.start (p.end - p.start) ws last) r
   ring_turns t = part_turns (ring_part u c) p.start p.end l.start l.end (rw (l.slots, l.ring) at t)
 
   -- the room in the ring, with the register's most slots
   pub room_reads : (b fp : ℕ) {ws : List ℕ} {r : Room}
-      → RingReads p.slots p.ring (make_room p.slots b fp) (mid_of p.start (p.end - p.start) ws) r
+      → RingReads p.shape.slots p.shape.ring (make_room p.shape.slots b fp) (mid_of p.start (p.end - p.start) ws) r
       → RegisterReads u (λ reg. make_room u.slots b fp (pick c reg.rings)) ws r
   room_reads b fp {ws} {r} t =
       subst (λ (S : ℕ). RegisterReads u (λ reg. make_room S b fp (pick c reg.rings)) ws r) l.slots (ring_reads t)
@@ -78,7 +78,7 @@ module _ (u : Usable) (c : Class) (p : RingExtent) (l : RingAt u c p) where
   -- and back: these words are those of one ring alone
   pub room_in_ring : (b fp : ℕ) (ws : List ℕ) (r : Room) → RegisterWords u ws
       → RegisterReads u (λ reg. make_room u.slots b fp (pick c reg.rings)) ws r
-      → RingReads p.slots p.ring (make_room p.slots b fp) (mid_of p.start (p.end - p.start) ws) r
+      → RingReads p.shape.slots p.shape.ring (make_room p.shape.slots b fp) (mid_of p.start (p.end - p.start) ws) r
   room_in_ring b fp ws r w t =
       rw (l.slots, l.ring) (record {
         says = λ x ok is.

@@ -18,7 +18,7 @@ use Rattle.model.specs.Class.{pick}
 use Rattle.model.specs.Register.{Register, in_ring, sweep_ring, sweep_rings, swept_to, through_of, sweep}
 use Rattle.model.specs.RegisterWords.{register_form}
 use Rattle.model.proofs.RingsKept.{from_form, to_form, swapped_ok, swept_ok, sweep_ok}
-use Rattle.generation.specs.declared.Dropped.{Dropped}
+use Rattle.std.specs.Prelude.{Option}
 use Rattle.ring.specs.Sweep.{swept_ring, swept_says, raised_by}
 use Rattle.ring.proofs.Sweeping.{sweep_floor}
 use Rattle.register.specs.Rules.{raised_with, swept_class}
@@ -40,7 +40,7 @@ module _ (u : Usable) where
   class_ok c a through reg ok = in_ring_ok c a through reg ok
 
   -- ---- one class
-  pub class_turns : (c : Class) (a through : ℕ) (ws mid last : List ℕ) (d : Dropped)
+  pub class_turns : (c : Class) (a through : ℕ) (ws mid last : List ℕ) (d : Option ℕ)
       → RegisterTurns u (in_ring c (swept_ring a through)) (λ reg. swept_says a through (pick c reg.rings)) ws mid d
       → RegisterTurns u (raised_with d) silent mid last (tt {0})
       → RegisterTurns u (swept_class c a through) silent ws last (tt {0})

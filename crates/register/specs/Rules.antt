@@ -1,9 +1,7 @@
 -- The model's rules on one register, as the functions of this crate name them.
-use Rattle.std.specs.Prelude.{ℕ, cond, []}
+use Rattle.std.specs.Prelude.{ℕ, Bool, Option, []}
 use Rattle.std.proofs.Math.Option.{none}
 use Rattle.model.specs.declared.Class.{Class}
-use Rattle.model.specs.declared.Answer.{Answer}
-use Rattle.model.specs.declared.Answer.TheVariants.{Begun, Already, SweptTo}
 use Rattle.model.specs.declared.Verdict.{Verdict}
 use Rattle.model.specs.declared.Usable.{Usable}
 use Rattle.model.specs.Class.{pick}
@@ -11,12 +9,12 @@ use Rattle.model.specs.Register.{Register, with_floor, in_ring, published}
 use Rattle.model.specs.Judge.{judge, judge_batch}
 use Rattle.model.specs.Dump.{failed}
 use Rattle.model.specs.Judge.{Ask as Asked}
-use Rattle.generation.specs.declared.Dropped.{Dropped}
 use Rattle.ring.specs.Sweep.{swept_ring, swept_says, raised_by}
+use Rattle.register.specs.declared.heading.SweptTo.{SweptTo}
 use Rattle.register.specs.declared.judging.Ask.{Ask}
 
 -- the floor raised by what went
-abbrev pub raised_with : Dropped → Register → Register
+abbrev pub raised_with : Option ℕ → Register → Register
 raised_with d reg = with_floor (raised_by d reg.floor) reg
 
 -- one class of a sweep
@@ -24,11 +22,11 @@ abbrev pub swept_class : Class → ℕ → ℕ → Register → Register
 swept_class c from through reg =
     raised_with (swept_says from through (pick c reg.rings)) (in_ring c (swept_ring from through) reg)
 
-abbrev pub begin_says : Register → Answer
-begin_says reg = cond reg.pending Begun Already
+abbrev pub begin_says : Register → Bool
+begin_says reg = reg.pending
 
-abbrev pub swept_answer : Usable → Register → Answer
-swept_answer u reg = SweptTo reg.swept (published u reg.swept)
+abbrev pub swept_answer : Usable → Register → SweptTo
+swept_answer u reg = record { bucket = record { 0 = reg.swept }; published = record { 0 = published u reg.swept } }
 
 -- a generation that failed, by its bucket and its newest stamp; and no floor
 abbrev pub failed_at : Class → ℕ → ℕ → Register → Register

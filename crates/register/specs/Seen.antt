@@ -1,6 +1,6 @@
 -- What a sweep would leave of a register, by what was seen of it, and the rules of judge on that.
-use Rattle.std.specs.Prelude.{ℕ, ◌+◌, ◌-◌, max, Bool, true, false, cond, ◌||◌, List, [], ◌∷◌, leb, ltb, if◌then◌else◌}
-use Rattle.std.proofs.Math.Option.{Option, none, some}
+use Rattle.std.specs.Prelude.{ℕ, ◌+◌, ◌-◌, max, Bool, cond, ◌||◌, Option, Some, None, List, [], ◌∷◌, leb, ltb, if◌then◌else◌}
+use Rattle.std.proofs.Math.Option.{Option as Floored, none, some}
 use Rattle.model.specs.declared.Class.{Class}
 use Rattle.model.specs.declared.Class.TheVariants.{Feeders, Peers, Own}
 use Rattle.model.specs.declared.Reason.{Reason}
@@ -12,51 +12,47 @@ use Rattle.model.specs.Numbers.{under}
 use Rattle.model.specs.Settings.{ring_of}
 use Rattle.model.specs.Class.{pick, each}
 use Rattle.model.specs.Register.{Register, holds, through_of, sweep}
-use Rattle.model.specs.RegisterWords.{floor_word}
 use Rattle.model.specs.Judge.{Ask, window_for, front_past}
 use Rattle.model.specs.Reason.{judge_rules, first_rule}
-use Rattle.generation.specs.declared.Dropped.{Dropped}
-use Rattle.generation.specs.declared.Dropped.TheVariants.{Nothing, Newest}
+use Rattle.generation.specs.Rules.{went}
 use Rattle.ring.specs.Sweep.{swept_ring, swept_says, Visits, holds_after, room_after}
 use Rattle.register.specs.declared.peeking.Seen.{Seen}
-use Rattle.register.specs.declared.peeking.HeldIn.{HeldIn}
-use Rattle.register.specs.declared.peeking.HeldIn.TheVariants.{Nobody, By}
 
 -- ---- what was seen
-abbrev pub seen_floor : Seen → Option ℕ
-seen_floor s = cond s.present (some s.floor) none
+-- the code's Option as a floor of the rules
+abbrev pub floor_of : Option ℕ → Floored ℕ
+floor_of None = none
+floor_of (Some f) = some f
+
+abbrev pub seen_floor : Seen → Floored ℕ
+seen_floor s = floor_of s.floor
 
 -- a sweep over no more buckets than a ring has positions
 abbrev pub Sees : Usable → Seen → Type 0
-Sees u s = Visits (ring_of u) s.from.0 s.through.0
+Sees u s = Visits (ring_of u) s.buckets
 
 -- raised to a stamp, unless it is as high; and by what would go
 unfoldable pub seen_raised : ℕ → Seen → Seen
-seen_raised stamp s = cond (under stamp (seen_floor s)) s (record { from = s.from; through = s.through; present = true; floor = stamp })
+seen_raised stamp s = cond (under stamp (seen_floor s)) s (record { buckets = s.buckets; floor = Some stamp })
 
-abbrev pub seen_raised_by : Dropped → Seen → Seen
-seen_raised_by Nothing s = s
-seen_raised_by (Newest stamp) s = seen_raised stamp s
+abbrev pub seen_raised_by : Option ℕ → Seen → Seen
+seen_raised_by None s = s
+seen_raised_by (Some stamp) s = seen_raised stamp s
 
 -- what would go of a class's ring, and of the three
-unfoldable pub newest_of_class : Class → ℕ → ℕ → Register → Dropped
+unfoldable pub newest_of_class : Class → ℕ → ℕ → Register → Option ℕ
 newest_of_class c from through reg = swept_says from through (pick c reg.rings)
 
 unfoldable pub seen_rings : Seen → Register → Seen
 seen_rings s reg =
-    let from = s.from.0 in
-    let through = s.through.0 in
+    let from = s.buckets.from.0 in
+    let through = s.buckets.through.0 in
     seen_raised_by (newest_of_class Own from through reg)
     (seen_raised_by (newest_of_class Peers from through reg) (seen_raised_by (newest_of_class Feeders from through reg) s))
 
 -- what is seen of a register at a reading: the buckets whose positions `sweep` visits, and the floor that it leaves
-abbrev pub floor_there : Option ℕ → Bool
-floor_there none = false
-floor_there (some f) = true
-
-abbrev pub seen_as : ℕ → ℕ → Option ℕ → Seen
-seen_as from through floor =
-    record { from = record { 0 = from }; through = record { 0 = through }; present = floor_there floor; floor = floor_word floor }
+abbrev pub seen_as : ℕ → ℕ → Floored ℕ → Seen
+seen_as from through floor = record { buckets = record { from = record { 0 = from }; through = record { 0 = through } }; floor = went floor }
 
 abbrev pub swept_from : Usable → ℕ → Register → ℕ
 swept_from u through reg = if reg.pending || leb through reg.swept then through else max reg.swept (through - ring_of u)
@@ -67,25 +63,25 @@ seen_by u ms reg = seen_as (swept_from u (through_of u ms) reg) (through_of u ms
 -- ---- the register that the sweep would leave
 unfoldable pub left_by : Seen → Register → Register
 left_by s reg = record {
-  swept = if reg.pending then reg.swept else s.through.0;
+  swept = if reg.pending then reg.swept else s.buckets.through.0;
   floor = seen_floor s;
   pending = reg.pending;
   spare = reg.spare;
-  rings = each (swept_ring s.from.0 s.through.0) reg.rings;
+  rings = each (swept_ring s.buckets.from.0 s.buckets.through.0) reg.rings;
 }
 
 -- ---- the rules of judge on it
 unfoldable pub class_holds : Seen → Class → ℕ → ℕ → Register → Bool
-class_holds s c b fp reg = holds_after s.from.0 s.through.0 b fp (pick c reg.rings)
+class_holds s c b fp reg = holds_after s.buckets b fp (pick c reg.rings)
 
-abbrev pub holder_in : (Class → Bool) → HeldIn
-holder_in holds = cond (holds Feeders) (By Feeders) (cond (holds Peers) (By Peers) (cond (holds Own) (By Own) Nobody))
+abbrev pub holder_in : (Class → Bool) → Option Class
+holder_in holds = cond (holds Feeders) (Some Feeders) (cond (holds Peers) (Some Peers) (cond (holds Own) (Some Own) None))
 
-unfoldable pub holder_left : Seen → ℕ → ℕ → Register → HeldIn
+unfoldable pub holder_left : Seen → ℕ → ℕ → Register → Option Class
 holder_left s b fp reg = holder_in (λ c. class_holds s c b fp reg)
 
 -- the floor and the window's two sides
-abbrev pub late_rules : Usable → Option ℕ → Ask → List (Rule Reason)
+abbrev pub late_rules : Usable → Floored ℕ → Ask → List (Rule Reason)
 late_rules u floor a =
     let window = window_for u a.who in
     rule Floor (under a.stamp floor)
@@ -93,7 +89,7 @@ late_rules u floor a =
     ∷ rule Ahead (front_past window a.stamp a.ms)
     ∷ []
 
-unfoldable pub late_rule : Usable → Option ℕ → Ask → Reason
+unfoldable pub late_rule : Usable → Floored ℕ → Ask → Reason
 late_rule u floor a = first_rule (late_rules u floor a)
 
 unfoldable pub judge_rule : Usable → Seen → Ask → Register → Reason
@@ -101,4 +97,4 @@ judge_rule u s a reg = first_rule (judge_rules u (left_by s reg) a)
 
 -- the room that a class's ring would have
 unfoldable pub room_left : Usable → Seen → Class → ℕ → ℕ → Register → Room
-room_left u s c b fp reg = room_after s.from.0 s.through.0 u.slots b fp (pick c reg.rings)
+room_left u s c b fp reg = room_after s.buckets u.slots b fp (pick c reg.rings)

@@ -34,8 +34,8 @@ pub record RingsOf (u : Usable) (n : Rings) : Type 0 where
 
 -- where a class's ring lies
 pub record RingAt (u : Usable) (c : Class) (p : RingExtent) : Type 0 where
-  pub slots : p.slots ≡ u.slots
-  pub ring : p.ring ≡ ring_of u
+  pub slots : p.shape.slots ≡ u.slots
+  pub ring : p.shape.ring ≡ ring_of u
   pub start : p.start ≡ ring_start u c
   pub end : p.end ≡ p.start + ring_width u
   pub within : p.end ≤ register_width u

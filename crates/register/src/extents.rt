@@ -6,6 +6,7 @@ ghost use Rattle.register.specs.Words.{RingsOf, RingAt};
 use generation::Generation;
 use model::{Class, Usable};
 use numbers::{codes, layout, spans};
+use ring::Shape;
 
 // The sizes of a register's rings: the positions of each, and its words.
 #[derive(Clone, Copy)]
@@ -14,11 +15,10 @@ pub struct Rings {
     pub width: usize,
 }
 
-// The words of a class's ring: from `start` up to `end`, for `ring` positions of at most `slots` slots.
+// The words of a class's ring: from `start` up to `end`, and its shape.
 #[derive(Clone, Copy)]
 pub struct RingExtent {
-    pub slots: usize,
-    pub ring: usize,
+    pub shape: Shape,
     pub start: usize,
     pub end: usize,
 }
@@ -30,8 +30,8 @@ pub fn rings_of(u: Usable) -> Rings
 {
     let ring = spans::ring_of(u) as usize;
     Rings {
-        ring: ring,
-        width: ring * ((u.slots as usize) + Generation::HEAD),
+        ring,
+        width: ring * (u.slots as usize + Generation::HEAD),
     }
 }
 
@@ -43,9 +43,11 @@ pub fn extent_in(u: Usable, rings: Rings, class: Class) -> RingExtent
     let number = codes::class_number(class) as usize;
     let start = layout::HEADING + number * rings.width;
     RingExtent {
-        slots: u.slots as usize,
-        ring: rings.ring,
-        start: start,
+        shape: Shape {
+            slots: u.slots as usize,
+            ring: rings.ring,
+        },
+        start,
         end: start + rings.width,
     }
 }

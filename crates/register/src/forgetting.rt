@@ -20,9 +20,7 @@ pub fn fail(part: &mut [u64], u: Usable, class: Class, bucket: Bucket, newest: u
     ensures { RegisterWords u part.new × RegisterTurns u (failed_at class bucket.0 newest) silent part.old part.new (tt {0}) }
 {
     let at = extents::ring_extent(u, class);
-    let a = at.start;
-    let e = at.end;
-    let went = ring::drop_bucket(&mut part[a..e], at.slots, at.ring, bucket);
+    let went = ring::drop_bucket(&mut part[at.start..at.end], at.shape, bucket);
     heading::raise_by(part, went);
     heading::raise_floor(part, newest);
 }
@@ -43,8 +41,7 @@ pub fn raise_to_dumped(part: &mut [u64], floor: u64)
     ensures part_after { part.new ≡ floor_dumped floor part.old }
     ensures register_turns { (u : Usable) → RegisterTurns u (raised_to_dumped floor) silent part.old part.new (tt {0}) }
 {
-    if floor == 0 {
-        return;
+    if floor != 0 {
+        heading::raise_floor(part, floor - 1);
     }
-    heading::raise_floor(part, floor - 1);
 }

@@ -6,14 +6,21 @@ ghost use Rattle.model.specs.declared.Usable.{Usable};
 ghost use Rattle.model.specs.Numbers.{under};
 ghost use Rattle.model.specs.Register.{raised, swept_to, published, begin as begun};
 ghost use Rattle.model.specs.RegisterWords.{read_heading};
-ghost use Rattle.model.specs.Calls.{floor_answer};
+ghost use Rattle.model.specs.Optional.{optional};
 ghost use Rattle.register.specs.Heading.{published_in, swept_in, sweep_stored, floor_raised, floor_raised_by, begun_in, begin_told};
 ghost use Rattle.register.specs.Rules.{raised_with, begin_says, swept_answer};
 ghost use Rattle.register.specs.Words.{RegisterReads, RegisterTurns};
 
-use generation::Dropped;
-use model::{Answer, Bucket, Judged, Usable};
+use model::{Bucket, Judged, Usable};
 use numbers::{layout, spans};
+
+// How far a register is swept.
+#[derive(Clone, Copy, Debug, PartialEq, Eq)]
+pub struct SweptTo {
+    pub bucket: Bucket,
+    // The same in milliseconds, as the share book reads it.
+    pub published: Judged,
+}
 
 // Whether the register waits for the host's number.
 pub fn is_pending(part: &[u64]) -> bool
@@ -25,24 +32,24 @@ pub fn is_pending(part: &[u64]) -> bool
 }
 
 // The newest stamp that it may have forgotten, if any.
-pub fn floor(part: &[u64]) -> Answer
+pub fn floor(part: &[u64]) -> Option<u64>
     requires { 24 ≤ length part.now }
-    ensures value { result ≡ floor_answer (read_heading part.now).floor }
-    ensures register_reads { (u : Usable) → RegisterReads u (λ reg. floor_answer reg.floor) part.now result }
+    ensures value { result ≡ optional (read_heading part.now).floor }
+    ensures register_reads { (u : Usable) → RegisterReads u (λ reg. optional reg.floor) part.now result }
 {
-    if part[layout::HAS_FLOOR] == 1 {
-        return Answer::FloorAt(part[layout::FLOOR]);
-    }
-    Answer::NoFloor
+    (part[layout::HAS_FLOOR] == 1).then_some(part[layout::FLOOR])
 }
 
 // The bucket up to which it is swept, and that in milliseconds.
-pub fn swept(part: &[u64]) -> Answer
+pub fn swept(part: &[u64]) -> SweptTo
     requires { 24 ≤ length part.now }
     ensures value { result ≡ swept_in part.now }
     ensures register_reads { (u : Usable) → RegisterReads u (swept_answer u) part.now result }
 {
-    Answer::SweptTo(part[layout::SWEPT], part[layout::PUBLISHED])
+    SweptTo {
+        bucket: Bucket(part[layout::SWEPT]),
+        published: Judged(part[layout::PUBLISHED]),
+    }
 }
 
 // The sweep that it publishes to the share book, in milliseconds.
@@ -69,22 +76,20 @@ pub fn raise_floor(part: &mut [u64], stamp: u64)
     ensures part_after { part.new ≡ floor_raised stamp part.old }
     ensures register_turns { (u : Usable) → RegisterTurns u (raised stamp) silent part.old part.new (tt {0}) }
 {
-    if is_under(part, stamp) {
-        return;
+    if !is_under(part, stamp) {
+        part[layout::HAS_FLOOR] = 1;
+        part[layout::FLOOR] = stamp;
     }
-    part[layout::HAS_FLOOR] = 1;
-    part[layout::FLOOR] = stamp;
 }
 
 // The same by what a drop forgot.
-pub(crate) fn raise_by(part: &mut [u64], went: Dropped)
+pub(crate) fn raise_by(part: &mut [u64], went: Option<u64>)
     requires { 24 ≤ length part.old }
     ensures part_after { part.new ≡ floor_raised_by went part.old }
     ensures register_turns { (u : Usable) → RegisterTurns u (raised_with went) silent part.old part.new (tt {0}) }
 {
-    match went {
-        Dropped::Nothing => {}
-        Dropped::Newest(stamp) => raise_floor(part, stamp),
+    if let Some(stamp) = went {
+        raise_floor(part, stamp);
     }
 }
 
@@ -99,16 +104,16 @@ pub(crate) fn set_swept(part: &mut [u64], u: Usable, swept: Bucket)
     part[layout::PUBLISHED] = published.0;
 }
 
-// Begins: a pending register's floor is raised to the host's number, and it is pending no longer.
-pub fn begin(part: &mut [u64], number: u64) -> Answer
+// Begins: a pending register's floor is raised to the host's number, and it is pending no longer. Says whether it was pending.
+pub fn begin(part: &mut [u64], number: u64) -> bool
     requires { 24 ≤ length part.old }
     ensures part_after { (part.new ≡ begun_in number part.old) × (result ≡ begin_told part.old) }
     ensures register_turns { (u : Usable) → RegisterTurns u (begun number) begin_says part.old part.new result }
 {
-    if !is_pending(part) {
-        return Answer::Already;
+    let pending = is_pending(part);
+    if pending {
+        raise_floor(part, number);
+        part[layout::PENDING] = 0;
     }
-    raise_floor(part, number);
-    part[layout::PENDING] = 0;
-    Answer::Begun
+    pending
 }

@@ -1,6 +1,5 @@
 // Judge: what a ticket is, with nothing remembered.
-ghost use Rattle.std.specs.Prelude.{◌≡◌, cond};
-ghost use Rattle.model.specs.declared.Verdict.TheVariants.{Late, Ahead};
+ghost use Rattle.std.specs.Prelude.{◌≡◌};
 ghost use Rattle.model.specs.Judge.{verdict as verdict_on, ahead_for as turned_ahead};
 ghost use Rattle.register.specs.Rules.{asked_by, judged_register, judge_says, batch_register, batch_says};
 ghost use Rattle.register.specs.Words.{RegisterWords, RegisterReads, RegisterTurns};
@@ -27,15 +26,14 @@ fn verdict(part: &[u64], u: Usable, ask: Ask) -> Verdict
     let bucket = spans::bucket_of(u, ask.stamp);
     let held = rings::holds_any_class(part, u, bucket, spans::as_read(ask.fp));
     let under = heading::is_under(part, ask.stamp);
-    let who = ask.who;
-    let within = spans::in_window(spans::window_for(u, who), ask.stamp, ask.now);
+    let within = spans::in_window(spans::window_for(u, ask.who), ask.stamp, ask.now);
     if held {
-        return Verdict::Duplicate;
+        Verdict::Duplicate
+    } else if under | !within {
+        Verdict::Late
+    } else {
+        Verdict::New
     }
-    if under | !within {
-        return Verdict::Late;
-    }
-    Verdict::New
 }
 
 // Nothing is judged while the register is pending or the flag is off; otherwise it sweeps first.
@@ -43,12 +41,12 @@ pub fn judge(part: &mut [u64], u: Usable, ask: Ask) -> Verdict
     requires { RegisterWords u part.old }
     ensures { RegisterWords u part.new × RegisterTurns u (judged_register u (asked_by ask)) (judge_says u (asked_by ask)) part.old part.new result }
 {
-    let pending = heading::is_pending(part);
-    if pending | !ask.judging {
-        return Verdict::Unjudged;
+    if heading::is_pending(part) || !ask.judging {
+        Verdict::Unjudged
+    } else {
+        sweeping::sweep(part, u, ask.now);
+        verdict(part, u, ask)
     }
-    sweeping::sweep(part, u, ask.now);
-    verdict(part, u, ask)
 }
 
 // A Late ticket past the window's front is Ahead.
@@ -56,22 +54,9 @@ pub fn ahead_for(past: bool, verdict: Verdict) -> Verdict
     ensures { result ≡ turned_ahead past verdict }
 {
     match verdict {
-        Verdict::New => verdict,
-        Verdict::Duplicate => verdict,
-        Verdict::Late => late_or_ahead(past),
-        Verdict::Ahead => verdict,
-        Verdict::Full => verdict,
-        Verdict::Unjudged => verdict,
+        Verdict::Late => { if past { Verdict::Ahead } else { Verdict::Late } }
+        _ => verdict,
     }
-}
-
-fn late_or_ahead(past: bool) -> Verdict
-    ensures { result ≡ cond past Ahead Late }
-{
-    if past {
-        return Verdict::Ahead;
-    }
-    Verdict::Late
 }
 
 // As `judge`, for a batch.
@@ -80,7 +65,6 @@ pub fn judge_batch(part: &mut [u64], u: Usable, ask: Ask) -> Verdict
     ensures { RegisterWords u part.new × RegisterTurns u (batch_register u (asked_by ask)) (batch_says u (asked_by ask)) part.old part.new result }
 {
     let verdict = judge(part, u, ask);
-    let who = ask.who;
-    let past = spans::front_past(spans::window_for(u, who), ask.stamp, ask.now);
+    let past = spans::front_past(spans::window_for(u, ask.who), ask.stamp, ask.now);
     ahead_for(past, verdict)
 }

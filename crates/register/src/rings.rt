@@ -14,6 +14,7 @@ use crate::extents::Rings;
 use crate::{extents, heading};
 use model::{Bucket, Class, Room, Usable};
 use numbers::spans;
+use ring::Buckets;
 
 // The bucket that a position of a class's ring has; where it holds nothing any number.
 pub fn bucket_at(part: &[u64], u: Usable, class: Class, position: usize) -> Bucket
@@ -21,9 +22,7 @@ pub fn bucket_at(part: &[u64], u: Usable, class: Class, position: usize) -> Buck
     ensures { RegisterReads u (λ reg. bucket_in position (pick class reg.rings)) part.now result.0 }
 {
     let at = extents::ring_extent(u, class);
-    let a = at.start;
-    let e = at.end;
-    ring::bucket_at(&part[a..e], at.slots, at.ring, position)
+    ring::bucket_at(&part[at.start..at.end], at.shape, position)
 }
 
 // Whether a class's ring holds a fingerprint in a bucket, whose position is `position`.
@@ -40,12 +39,10 @@ fn holds_in(
     ensures { RegisterReads u (λ reg. holds bucket.0 fp (pick class reg.rings)) part.now result }
 {
     let at = extents::extent_in(u, rings, class);
-    let a = at.start;
-    let e = at.end;
-    ring::contains_at(&part[a..e], at.slots, at.ring, position, bucket, fp)
+    ring::contains_at(&part[at.start..at.end], at.shape, position, bucket, fp)
 }
 
-// Whether any class's ring does.
+// Whether any class's ring does. The three calls stand one after the other: a loop over the classes has more lines.
 pub fn holds_any_class(part: &[u64], u: Usable, bucket: Bucket, fp: u64) -> bool
     requires { (0 < fp) × RegisterWords u part.now }
     ensures { RegisterReads u (λ reg. any_class (holds bucket.0 fp) reg.rings) part.now result }
@@ -64,12 +61,10 @@ fn holds_hash(part: &[u64], u: Usable, rings: Rings, class: Class, fp: u64) -> b
     ensures { RegisterReads u (λ reg. holds_any fp (pick class reg.rings)) part.now result }
 {
     let at = extents::extent_in(u, rings, class);
-    let a = at.start;
-    let e = at.end;
-    ring::contains_any(&part[a..e], at.slots, at.ring, fp)
+    ring::contains_any(&part[at.start..at.end], at.shape, fp)
 }
 
-// Whether the register holds a fingerprint in any bucket of any class.
+// Whether the register holds a fingerprint in any bucket of any class. The three calls stand as they do above.
 pub fn contains_hash(part: &[u64], u: Usable, fp: u64) -> bool
     requires { RegisterWords u part.now }
     ensures { RegisterReads u (λ reg. any_class (holds_any (read_as fp)) reg.rings) part.now result }
@@ -88,9 +83,7 @@ pub fn room(part: &[u64], u: Usable, class: Class, bucket: Bucket, fp: u64) -> R
     ensures { RegisterReads u (λ reg. make_room u.slots bucket.0 fp (pick class reg.rings)) part.now result }
 {
     let at = extents::ring_extent(u, class);
-    let a = at.start;
-    let e = at.end;
-    ring::room(&part[a..e], at.slots, at.ring, bucket, fp)
+    ring::room(&part[at.start..at.end], at.shape, bucket, fp)
 }
 
 // A fingerprint is inserted into a class's ring, at the position where room was found for it.
@@ -107,12 +100,9 @@ pub fn strike(
     ensures { RegisterTurns u (struck class bucket.0 fp stamp) silent part.old part.new (tt {0}) }
 {
     let at = extents::ring_extent(u, class);
-    let a = at.start;
-    let e = at.end;
     ring::insert(
-        &mut part[a..e],
-        at.slots,
-        at.ring,
+        &mut part[at.start..at.end],
+        at.shape,
         position,
         bucket,
         fp,
@@ -121,20 +111,11 @@ pub fn strike(
 }
 
 // A class's ring is swept, and the newest that went raises the floor.
-pub fn sweep_class(
-    part: &mut [u64],
-    u: Usable,
-    rings: Rings,
-    class: Class,
-    from: Bucket,
-    through: Bucket,
-)
+pub fn sweep_class(part: &mut [u64], u: Usable, rings: Rings, class: Class, buckets: Buckets)
     requires { RegisterWords u part.old × RingsOf u rings }
-    ensures { RegisterWords u part.new × RegisterTurns u (swept_class class from.0 through.0) silent part.old part.new (tt {0}) }
+    ensures { RegisterWords u part.new × RegisterTurns u (swept_class class buckets.from.0 buckets.through.0) silent part.old part.new (tt {0}) }
 {
     let at = extents::extent_in(u, rings, class);
-    let a = at.start;
-    let e = at.end;
-    let went = ring::sweep(&mut part[a..e], at.slots, at.ring, from, through);
+    let went = ring::sweep(&mut part[at.start..at.end], at.shape, buckets);
     heading::raise_by(part, went);
 }

@@ -8,6 +8,7 @@ use crate::extents::Rings;
 use crate::{extents, heading, rings};
 use model::{Bucket, Class, Judged, Usable};
 use numbers::{layout, spans};
+use ring::Buckets;
 
 // The bucket that a sweep starts from: the one swept last, or a whole ring back where the clock has moved further than that.
 pub(crate) fn sweep_from(swept: Bucket, through: Bucket, ring: u64) -> Bucket
@@ -15,20 +16,21 @@ pub(crate) fn sweep_from(swept: Bucket, through: Bucket, ring: u64) -> Bucket
     ensures { result.0 ≡ max swept.0 (through.0 - ring) }
 {
     if ring <= through.0 - swept.0 {
-        return Bucket(through.0 - ring);
+        Bucket(through.0 - ring)
+    } else {
+        swept
     }
-    swept
 }
 
-// The three rings are swept, and the register is swept up to a bucket.
-fn sweep_rings(part: &mut [u64], u: Usable, sizes: Rings, from: Bucket, through: Bucket)
+// The three rings are swept, and the register is swept up to a bucket. A loop over the classes would be no shorter.
+fn sweep_rings(part: &mut [u64], u: Usable, sizes: Rings, buckets: Buckets)
     requires { RegisterWords u part.old × RingsOf u sizes }
-    ensures { RegisterTurns u (swept_rings from.0 through.0) silent part.old part.new (tt {0}) }
+    ensures { RegisterTurns u (swept_rings buckets.from.0 buckets.through.0) silent part.old part.new (tt {0}) }
 {
-    rings::sweep_class(part, u, sizes, Class::Feeders, from, through);
-    rings::sweep_class(part, u, sizes, Class::Peers, from, through);
-    rings::sweep_class(part, u, sizes, Class::Own, from, through);
-    heading::set_swept(part, u, through);
+    rings::sweep_class(part, u, sizes, Class::Feeders, buckets);
+    rings::sweep_class(part, u, sizes, Class::Peers, buckets);
+    rings::sweep_class(part, u, sizes, Class::Own, buckets);
+    heading::set_swept(part, u, buckets.through);
 }
 
 // A pending register does not sweep. A clock that stepped back drops nothing, and what is taken after it is dropped as that
@@ -42,15 +44,15 @@ pub fn sweep(part: &mut [u64], u: Usable, reading: Judged)
     }
     let through = spans::through_of(u, reading);
     let swept = Bucket(part[layout::SWEPT]);
-    // Swept up to there already, and that is published.
-    if through.0 == swept.0 {
-        return;
-    }
-    if through.0 <= swept.0 {
+    // Where it is swept up to there already, that is published, and nothing changes.
+    if through.0 < swept.0 {
         heading::set_swept(part, u, through);
-        return;
+    } else if swept.0 < through.0 {
+        let sizes = extents::rings_of(u);
+        let buckets = Buckets {
+            from: sweep_from(swept, through, sizes.ring as u64),
+            through,
+        };
+        sweep_rings(part, u, sizes, buckets);
     }
-    let sizes = extents::rings_of(u);
-    let from = sweep_from(swept, through, sizes.ring as u64);
-    sweep_rings(part, u, sizes, from, through);
 }

@@ -1,8 +1,8 @@
 -- A register's view by the words of a register, whatever they are. Of the words of a well-formed register it is the model's
--- (proofs/Viewed).
-use Rattle.std.specs.Prelude.{ℕ, ◌+◌, cond, List, [], ◌∷◌, ◌++◌, eqb, get_or}
+-- (proofs/Views).
+use Rattle.std.specs.Prelude.{ℕ, cond, List, [], ◌∷◌, ◌++◌, eqb, get_or}
 use Rattle.runs.specs.Over.{Fits as FitsOver, Puts as PutsOver, itself}
-use Rattle.dump.specs.Parts.{parts, parts_held, ring_at}
+use Rattle.dump.specs.Parts.{parts, ring_at}
 
 -- ---- words over an output's words
 abbrev pub Fits : ℕ → List ℕ → List ℕ → Type 0
@@ -15,12 +15,13 @@ Puts p ws before after r = PutsOver itself 1 p ws before after r
 unfoldable pub part_view : List ℕ → List ℕ
 part_view ws = cond (eqb (get_or ws 1 0) 0) [] (get_or ws 3 0 ∷ get_or ws 4 0 ∷ get_or ws 2 0 ∷ get_or ws 1 0 ∷ [])
 
+-- nothing stands before those of a class
+abbrev pub nothing_before : ℕ → ℕ → List ℕ → List ℕ
+nothing_before k n ws = []
+
 -- ---- n of them, each of k words, and those of a register's three rings
 abbrev pub parts_view : ℕ → ℕ → List ℕ → List ℕ
 parts_view k n ws = parts part_view k n ws
 
 abbrev pub register_parts : ℕ → ℕ → List ℕ → List ℕ
 register_parts k n ws = parts_view k n (ring_at k n 0 ws) ++ (parts_view k n (ring_at k n 1 ws) ++ parts_view k n (ring_at k n 2 ws))
-
-abbrev pub held_parts : ℕ → ℕ → List ℕ → ℕ
-held_parts k n ws = parts_held k n (ring_at k n 0 ws) + parts_held k n (ring_at k n 1 ws) + parts_held k n (ring_at k n 2 ws)

@@ -16,22 +16,30 @@
 #![tactic(auto)]
 
 mod answer;
-mod input;
 mod line;
 mod run;
 
+use answer::Line;
+use run::Register;
 use std::io;
+use std::io::BufReader;
 
-// Lends 100,000 words, and 8 bytes for each of them: more than any dump of a register in so many words. A line of more than 1,638,400
-// bytes, which brings 400,000 bytes or more, is not read.
+// Nothing says that the input ends, so the lines are counted, up to a number that no run reaches.
 fn main(rt: HostRuntime) -> io::Result<()> {
-    let mut words = [0u64; 100000];
-    let mut kept = [0u64; 29];
-    let mut next = [0u64; 29];
-    let mut bytes = [0u8; 800000];
-    let mut lines = [0u8; 1638400];
-    let mut stdin = rt.stdin();
-    input::replay(
-        &rt, &mut stdin, &mut lines, &mut words, &mut kept, &mut next, &mut bytes,
-    )
+    let alloc = rt.alloc();
+    let mut input = BufReader::new(alloc, rt.reader())?;
+    let mut register = Register::new(alloc)?;
+    let mut text = Vec::new(alloc);
+    let mut bytes = vec![in alloc; 0; run::BYTES]?;
+    for _ in 0..u64::MAX {
+        if !line::next(&mut input, &mut text)? {
+            break;
+        }
+        let answer = match line::read(&text, &mut bytes) {
+            Some(call) => register.run(alloc, &call)?,
+            None => Line::unread(alloc)?,
+        };
+        answer.write(&rt)?;
+    }
+    Ok(())
 }

@@ -1,9 +1,18 @@
 // Runs the call of a line.
-ghost use Rattle.std.specs.Prelude.{◌≤◌, ◌<◌, length};
+ghost use Rattle.std.specs.Prelude.{◌≤◌};
 
-use crate::answer::Said;
-use crate::line;
-use model::Answer;
+use crate::answer::Line;
+use crate::line::Call;
+use std::alloc::{AllocError, Global};
+
+// The words that can be lent.
+const WORDS: usize = 100000;
+
+// The bytes that a call can bring, or a dump write: 8 for each word, more than any dump of a register in so many words.
+pub(crate) const BYTES: usize = 800000;
+
+// The words that a view can write.
+const VIEW: usize = 3072;
 
 // The code of each call, under the name that it has in docs/CALLS.md, and of the lines that set the stage. tests/replay_stdin takes the
 // codes from here.
@@ -59,166 +68,166 @@ const SETTINGS: u64 = 102;
 
 const POKE: u64 = 103;
 
-// What a line said, and how many words are lent from then on.
-#[derive(Clone, Copy)]
-pub struct Ran {
-    pub said: Said,
-    pub lent: u64,
+// A register: its words, of which as many are lent as `lent` says, if there are so many; the settings of the last opening that went
+// through; and those that the next call brings. All of them are 0 before the first opening, which every call refuses. Dumps are written
+// to `dump`.
+#[derive(Drop)]
+pub struct Register {
+    words: Vec<u64>,
+    lent: usize,
+    kept: [u64; 29],
+    next: [u64; 29],
+    dump: Vec<u8>,
 }
 
-// Runs a line. `a` are its arguments, and the first `filled` of `bytes` its bytes. `kept` are the settings of the last opening that went
-// through, and `next` those that the next call brings. All of them are 0 before the first opening, which every call refuses. `view` takes
-// the words of a view.
-pub(crate) fn run(
-    code: u64,
-    a: &[u64; 64],
-    filled: usize,
-    words: &mut [u64],
-    kept: &mut [u64],
-    next: &mut [u64],
-    bytes: &mut [u8],
-    view: &mut [u64],
-    lent: u64,
-) -> Ran
-    requires { filled ≤ length bytes.old }
-{
-    let n = line::most(lent, words.len());
-    match code {
-        LEND => Ran {
-            said: Said::Told(Answer::Done),
-            lent: a[0],
-        },
-        SETTINGS => stays(bring(next, a), lent),
-        POKE => stays(poke(words, a[0], a[1]), lent),
-        OPEN => stays(open(a, &mut words[0..n], kept, next), lent),
-        _ => {
-            let said = call(code, a, filled, &mut words[0..n], next, bytes, view);
-            copy_words(next, kept);
-            stays(said, lent)
+impl Register {
+    pub(crate) fn new(alloc: Global) -> Result<Register, AllocError> {
+        Ok(Register {
+            words: vec![in alloc; 0; WORDS]?,
+            lent: WORDS,
+            kept: [0; 29],
+            next: [0; 29],
+            dump: vec![in alloc; 0; BYTES]?,
+        })
+    }
+
+    // Runs a call, and returns the line of its answer.
+    pub(crate) fn run(&mut self, alloc: Global, call: &Call<'_>) -> Result<Line, AllocError> {
+        let a = &call.arguments;
+        match call.code {
+            LEND => {
+                self.lent = a[0] as usize;
+                Line::told(alloc, Ok(()))
+            }
+            SETTINGS => {
+                self.next = settings_of(a);
+                Line::told(alloc, Ok(()))
+            }
+            POKE => self.poke(alloc, a[0] as usize, a[1]),
+            OPEN => self.open(alloc, a),
+            _ => {
+                let line = self.call(alloc, call)?;
+                self.next = self.kept;
+                Ok(line)
+            }
+        }
+    }
+
+    // Alters a word; there is none past those that can be lent.
+    fn poke(&mut self, alloc: Global, place: usize, value: u64) -> Result<Line, AllocError> {
+        match self.words.get_mut(place) {
+            Some(word) => {
+                *word = value;
+                Line::told(alloc, Ok(()))
+            }
+            None => Line::unread(alloc),
+        }
+    }
+
+    // Keeps the settings of an opening that goes through; brings the kept ones again after any other.
+    fn open(&mut self, alloc: Global, a: &[u64; 64]) -> Result<Line, AllocError> {
+        let settings = settings_of(a);
+        let limits = [a[5], a[6], a[7], a[8], a[9]];
+        let starts = [a[16], a[17], a[24], a[25], a[32], a[33], a[40], a[41]];
+        let answer = strikes::open(
+            &settings,
+            &limits,
+            &starts,
+            lent(&mut self.words, self.lent),
+        );
+        if answer.is_ok() {
+            self.kept = settings;
+        }
+        self.next = self.kept;
+        Line::told(alloc, answer)
+    }
+
+    // Calls what a code names: an arm for each call.
+    fn call(&mut self, alloc: Global, call: &Call<'_>) -> Result<Line, AllocError> {
+        let Call {
+            code,
+            arguments: a,
+            bytes,
+        } = *call;
+        let s = &self.next;
+        let words = lent(&mut self.words, self.lent);
+        match code {
+            JUDGE => Line::told(
+                alloc,
+                strikes::judge(s, words, a[0], a[1], a[2], a[3], a[4], a[5], a[6]),
+            ),
+            TAKE => Line::told(
+                alloc,
+                strikes::take(s, words, a[0], a[1], a[2], a[3], a[4], a[5], a[6]),
+            ),
+            JUDGE_BATCH => Line::told(
+                alloc,
+                strikes::judge_batch(s, words, a[0], a[1], a[2], a[3], a[4], a[5], a[6]),
+            ),
+            TAKE_BATCH => Line::told(
+                alloc,
+                strikes::take_batch(s, words, a[0], a[1], a[2], a[3], a[4], a[5], a[6]),
+            ),
+            CONTAINS_HASH => Line::told(alloc, strikes::contains_hash(s, words, a[0], a[1])),
+            BEGIN => Line::told(alloc, strikes::begin(s, words, a[0], a[1])),
+            EXPIRE => Line::told(alloc, strikes::expire(s, words, a[0])),
+            SWEEP => Line::told(alloc, strikes::sweep(s, words, a[0], a[1])),
+            LIMITS => Line::told(alloc, strikes::set_limits(s, words, &a[..5])),
+            CLOSE => Line::told(alloc, strikes::close(s, words)),
+            DUMP => {
+                let n = output_length(a[1], a[2], self.dump.len());
+                let out = &mut self.dump[..n];
+                let answer = strikes::dump(s, words, a[0], out);
+                Line::told_with(alloc, answer, out)
+            }
+            RESTORE => Line::told(alloc, strikes::restore(s, words, a[0], bytes)),
+            RESUME => Line::told(alloc, strikes::resume(s, words, a[0], bytes, a[1], a[2])),
+            FLOOR => Line::told(alloc, strikes::floor(s, words, a[0])),
+            PENDING => Line::told(alloc, strikes::pending(s, words, a[0])),
+            SWEPT => Line::told(alloc, strikes::swept(s, words, a[0])),
+            HELD => Line::told(alloc, strikes::held(s, words, a[0], a[1])),
+            CLASS => Line::told(alloc, strikes::class_totals(s, words, a[0])),
+            VIEW_REGISTER => {
+                let mut out = [0; VIEW];
+                let out = &mut out[..output_length(a[1], a[2], VIEW)];
+                let answer = strikes::view_register(s, words, a[0], out);
+                Line::told_with(alloc, answer, out)
+            }
+            VIEW_DELIVERER => {
+                let mut out = [0; VIEW];
+                let out = &mut out[..output_length(a[2], a[3], VIEW)];
+                let answer = strikes::view_deliverer(s, words, a[0], a[1], out);
+                Line::told_with(alloc, answer, out)
+            }
+            EXPLAIN => Line::told(
+                alloc,
+                strikes::explain(s, words, a[0], a[1], a[2], a[3], a[4], a[5], a[6]),
+            ),
+            STAMP_FOR => Line::told(
+                alloc,
+                strikes::stamp_for(s, words, a[0], a[1], a[2], a[3], a[4], a[5], a[6]),
+            ),
+            _ => Line::unread(alloc),
         }
     }
 }
 
-fn stays(said: Said, lent: u64) -> Ran {
-    Ran {
-        said: said,
-        lent: lent,
+// The words that are lent: as many of all as `lent` says, if there are so many.
+fn lent(words: &mut [u64], lent: usize) -> &mut [u64] {
+    let n = lent.min(words.len());
+    &mut words[..n]
+}
+
+// The settings that the arguments name: behind R, P, E, FU and PU come 5 limits, and each register has 6 numbers and a start of 2.
+fn settings_of(a: &[u64; 64]) -> [u64; 29] {
+    let mut settings = [0; 29];
+    settings[..5].copy_from_slice(&a[..5]);
+    for register in 0..4 {
+        let to = 5 + 6 * register;
+        let from = 10 + 8 * register;
+        settings[to..to + 6].copy_from_slice(&a[from..from + 6]);
     }
-}
-
-// Makes the first words of dst those of src.
-fn copy_words(dst: &mut [u64], src: &[u64]) {
-    let n = line::least(dst.len(), src.len());
-    let mut i = 0;
-    while i < n {
-        dst[i] = src[i];
-        i += 1;
-    }
-}
-
-// Returns the place of a word of the settings among the arguments: after R, P, E, FU and PU come 5 limits, and each register has 6
-// numbers and a start of 2.
-fn place_of(i: usize) -> usize
-    requires { i < 29 }
-    ensures { result < 64 }
-{
-    if i < 5 {
-        return i;
-    }
-    let at = i - 5;
-    10 + at / 6 * 8 + at % 6
-}
-
-// Makes the settings those that the arguments name.
-fn load(settings: &mut [u64], a: &[u64; 64]) {
-    let n = line::least(29, settings.len());
-    let mut i = 0;
-    while i < n {
-        let place = place_of(i);
-        settings[i] = a[place];
-        i += 1;
-    }
-}
-
-fn bring(next: &mut [u64], a: &[u64; 64]) -> Said {
-    load(next, a);
-    Said::Told(Answer::Done)
-}
-
-// Alters a word; there is none past those that can be lent.
-fn poke(words: &mut [u64], place: u64, value: u64) -> Said {
-    let at = place as usize;
-    if at < words.len() {
-        words[at] = value;
-        return Said::Told(Answer::Done);
-    }
-    Said::Unread
-}
-
-fn open(a: &[u64; 64], words: &mut [u64], kept: &mut [u64], next: &mut [u64]) -> Said {
-    load(next, a);
-    let limits = [a[5], a[6], a[7], a[8], a[9]];
-    let starts = [a[16], a[17], a[24], a[25], a[32], a[33], a[40], a[41]];
-    let answer = strikes::open(next, &limits, &starts, words);
-    settle(answer, kept, next);
-    Said::Told(answer)
-}
-
-// Keeps the settings of an opening that went through; brings the kept ones again after any other.
-fn settle(answer: Answer, kept: &mut [u64], next: &mut [u64]) {
-    if let Answer::Done = answer {
-        copy_words(kept, next);
-    } else {
-        copy_words(next, kept);
-    }
-}
-
-// Calls what a code names: an arm for each call.
-fn call(
-    code: u64,
-    a: &[u64; 64],
-    filled: usize,
-    words: &mut [u64],
-    s: &[u64],
-    bytes: &mut [u8],
-    view: &mut [u64],
-) -> Said
-    requires { filled ≤ length bytes.old }
-{
-    Said::Told(match code {
-        JUDGE => strikes::judge(s, words, a[0], a[1], a[2], a[3], a[4], a[5], a[6]),
-        TAKE => strikes::take(s, words, a[0], a[1], a[2], a[3], a[4], a[5], a[6]),
-        JUDGE_BATCH => strikes::judge_batch(s, words, a[0], a[1], a[2], a[3], a[4], a[5], a[6]),
-        TAKE_BATCH => strikes::take_batch(s, words, a[0], a[1], a[2], a[3], a[4], a[5], a[6]),
-        CONTAINS_HASH => strikes::contains_hash(s, words, a[0], a[1]),
-        BEGIN => strikes::begin(s, words, a[0], a[1]),
-        EXPIRE => strikes::expire(s, words, a[0]),
-        SWEEP => strikes::sweep(s, words, a[0], a[1]),
-        LIMITS => strikes::set_limits(s, words, &[a[0], a[1], a[2], a[3], a[4]]),
-        CLOSE => strikes::close(s, words),
-        DUMP => {
-            let n = output_length(a[1], a[2], bytes.len());
-            strikes::dump(s, words, a[0], &mut bytes[0..n])
-        }
-        RESTORE => strikes::restore(s, words, a[0], &bytes[0..filled]),
-        RESUME => strikes::resume(s, words, a[0], &bytes[0..filled], a[1], a[2]),
-        FLOOR => strikes::floor(s, words, a[0]),
-        PENDING => strikes::pending(s, words, a[0]),
-        SWEPT => strikes::swept(s, words, a[0]),
-        HELD => strikes::held(s, words, a[0], a[1]),
-        CLASS => strikes::class_totals(s, words, a[0]),
-        VIEW_REGISTER => {
-            let n = output_length(a[1], a[2], view.len());
-            strikes::view_register(s, words, a[0], &mut view[0..n])
-        }
-        VIEW_DELIVERER => {
-            let n = output_length(a[2], a[3], view.len());
-            strikes::view_deliverer(s, words, a[0], a[1], &mut view[0..n])
-        }
-        EXPLAIN => strikes::explain(s, words, a[0], a[1], a[2], a[3], a[4], a[5], a[6]),
-        STAMP_FOR => strikes::stamp_for(s, words, a[0], a[1], a[2], a[3], a[4], a[5], a[6]),
-        _ => return Said::Unread,
-    })
+    settings
 }
 
 // The length of an output: that which is given, else all of it. An output longer than that takes nothing that all of it does not.
@@ -226,7 +235,8 @@ fn output_length(given: u64, length: u64, all: usize) -> usize
     ensures { result ≤ all }
 {
     if given == 0 {
-        return all;
+        all
+    } else {
+        all.min(length as usize)
     }
-    line::most(length, all)
 }

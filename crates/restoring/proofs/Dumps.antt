@@ -2,8 +2,9 @@
 use Prim.Native.Nat.{ℕ, ◌+◌, ◌-◌, ◌/◌, ◌<◌, ◌≤◌}
 use native.Mathlib.Omega.{arith}
 use mathlib.Core.Path.{◌≡◌, refl, sym, ap, subst, ◌∙◌}
-use mathlib.Core.Bool.{Bool, true, false, ◌&&◌}
+use mathlib.Core.Bool.{Bool, true, ◌&&◌}
 use mathlib.Core.List.{List, [], ◌∷◌}
+use Rattle.std.specs.Prelude.{Option as Given, None, Some}
 use mathlib.Core.Option.{Option, none, some}
 use lib.ListN.{length, get_or}
 use Rattle.runs.proofs.Cases.{by_test}
@@ -76,11 +77,11 @@ module _ (s : Settings) (r : ℕ) where
     walking_inside ws at n w i l = (walk_next bs at n (class_end (words_of bs) from) i.walks l).inside
 
     pub walking_next : (ws last : List ℕ) (at n next : ℕ) (w v : Bool) → Walking ws at n w → 0 < n → next ≡ next_at (words_of bs) at → RunWords s last
-        → RestoreActs s r (one_restored s r c (dumped_at (words_of bs) at)) ws last v → Walking last next (n - 1) (v && w)
-    walking_next ws last at n next w v i l e words a =
+        → RestoreActs s r (one_restored s r c (dumped_at (words_of bs) at)) ws last v → (m : ℕ) → m ≡ n - 1 → Walking last next m (v && w)
+    walking_next ws last at n next w v i l e words a m is =
         let x = walk_next bs at n (class_end (words_of bs) from) i.walks l in
         let go = class_restored s r c (class_dumped (words_of bs) from) all in
-        record {
+        rw is (record {
           words = words;
           walks = rw e x.walks;
           rest = rest_step s r before ws last (left_from at n w) go (left_from next (n - 1) (v && w)) i.rest a
@@ -91,7 +92,7 @@ module _ (s : Settings) (r : ℕ) where
               ∙ ap (λ (b : Bool). left_from (next_at (words_of bs) at) (n - 1) (b && w) o.register o.book) q
               ∙ more_is c d (dumped_from (words_of bs) (next_at (words_of bs) at) (n - 1)) w reg k
               ∙ ap (λ (ds : List Dumped). class_restored s r c ds w reg k) (sym x.dumped));
-        }
+        })
 
     pub walking_end : (ws : List ℕ) (at n : ℕ) (w : Bool) → Walking ws at n w → n ≤ 0
         → (at ≡ class_end (words_of bs) from) × RestoreActs s r (class_restored s r c (class_dumped (words_of bs) from) all) before ws w
@@ -150,18 +151,18 @@ module _ (s : Settings) (r : ℕ) where
     unfolding resumed after_restored
     resume_turns p ws last v a = acts_turns s r h ws last a
 
-    pub resume_plain : (proven : Bool) (floor : ℕ) (ws mid last : List ℕ) (v : Bool) → proven ≡ false
+    pub resume_plain : (proven : Given ℕ) (ws mid last : List ℕ) (v : Bool) → proven ≡ None
         → Acts s r (λ reg k. floor_gone reg) (λ reg k. k) (λ reg. silent) ws mid (tt {0}) → RestoreActs s r (dump_restored s r d) mid last v
-        → StateTurns s (λ t. (resumed s r t (proven_to proven floor) (some d)).state) (resumed_whole s r d (proven_to proven floor)) ws last v
+        → StateTurns s (λ t. (resumed s r t (proven_to proven) (some d)).state) (resumed_whole s r d (proven_to proven)) ws last v
     unfolding resume raised_to_proven
-    resume_plain proven floor ws mid last v e a b =
+    resume_plain proven ws mid last v e a b =
         let acts : RestoreActs s r (resume_to none) ws last v = record { does = λ t reg k n. b.does t (floor_gone reg) k (a.does t reg k n).0 } in
         rw e (resume_turns none ws last v acts)
 
-    pub resume_proven : (proven : Bool) (floor : ℕ) (ws mid back last : List ℕ) (v : Bool) → proven ≡ true
+    pub resume_proven : (proven : Given ℕ) (floor : ℕ) (ws mid back last : List ℕ) (v : Bool) → proven ≡ Some floor
         → Acts s r (λ reg k. floor_gone reg) (λ reg k. k) (λ reg. silent) ws mid (tt {0}) → RestoreActs s r (dump_restored s r d) mid back v
         → Acts s r (λ reg k. raised floor reg) (λ reg k. k) (λ reg. silent) back last (tt {0})
-        → StateTurns s (λ t. (resumed s r t (proven_to proven floor) (some d)).state) (resumed_whole s r d (proven_to proven floor)) ws last v
+        → StateTurns s (λ t. (resumed s r t (proven_to proven) (some d)).state) (resumed_whole s r d (proven_to proven)) ws last v
     unfolding resume raised_to_proven
     resume_proven proven floor ws mid back last v e a b f =
         let acts : RestoreActs s r (resume_to (some floor)) ws last v = record {

@@ -1,5 +1,5 @@
 -- The model's rules of a restore, as the functions of this crate name them.
-use Rattle.std.specs.Prelude.{ℕ, ◌≡◌, Bool, true, false, cond, List}
+use Rattle.std.specs.Prelude.{ℕ, ◌≡◌, Bool, true, false, cond, List, Option as Given, None, Some, Result, Ok, Err}
 use Rattle.model.specs.declared.Class.{Class}
 use Rattle.model.specs.declared.Deliverer.TheVariants.{Restored}
 use Rattle.model.specs.declared.Room.{Room}
@@ -18,7 +18,6 @@ use Rattle.std.proofs.Math.Option.{Option, none, some}
 use Rattle.model.specs.Words.{State}
 use Rattle.model.specs.Calls.{register_at}
 use Rattle.restoring.specs.declared.heads.Head.{Head}
-use Rattle.restoring.specs.declared.heads.Tally.{Tally}
 use Rattle.restoring.specs.Words.{Acts}
 
 -- a generation's head names the second in which its shares end
@@ -56,10 +55,15 @@ drawn_if b h k = cond (may_draw b h k) (drawn b (Restored h.class) h.second.0 k)
 abbrev pub holding : ℕ → Register → Book → Holding
 holding n reg k = record { register = reg; book = k; draws = n; fits = true }
 
-abbrev pub tally_of : Holding → Tally
-tally_of h = record { draws = h.draws; fits = h.fits }
+-- the draws made, as an error where one did not fit
+abbrev pub tally_of : Holding → Result ℕ ℕ
+tally_of h = cond h.fits (Ok h.draws) (Err h.draws)
 
-abbrev pub HoldActs : Settings → ℕ → (Register → Book → Holding) → List ℕ → List ℕ → Tally → Type 0
+abbrev pub draws_in : Result ℕ ℕ → ℕ
+draws_in (Ok n) = n
+draws_in (Err n) = n
+
+abbrev pub HoldActs : Settings → ℕ → (Register → Book → Holding) → List ℕ → List ℕ → Result ℕ ℕ → Type 0
 HoldActs s r go before after v = Acts s r (λ reg k. (go reg k).register) (λ reg k. (go reg k).book) (λ reg k. tally_of (go reg k)) before after v
 
 abbrev pub one_held : Settings → ℕ → Head → List ℕ → ℕ → ℕ → Register → Book → Holding
@@ -91,12 +95,14 @@ dump_restored s r d reg k = restore (usable_at s r) s.shares d reg k
 abbrev pub restored_whole : Settings → ℕ → Dump → State → Bool
 restored_whole s r d t = (restore (usable_at s r) s.shares d (register_at r t) t.book).whole
 
-abbrev pub proven_to : Bool → ℕ → Option ℕ
-proven_to proven floor = cond proven (some floor) none
+-- the model's option of the program's
+abbrev pub proven_to : Given ℕ → Option ℕ
+proven_to None = none
+proven_to (Some floor) = some floor
 
 abbrev pub resumed_whole : Settings → ℕ → Dump → Option ℕ → State → Bool
 resumed_whole s r d p t = (resume (usable_at s r) s.shares d p (register_at r t) t.book).whole
 
 -- one fingerprint, whatever others its generation has
-pub record AllOnes (s : Settings) (r : ℕ) (h : Head) (fp n : ℕ) (before after : List ℕ) (v : Tally) : Type 0 where
+pub record AllOnes (s : Settings) (r : ℕ) (h : Head) (fp n : ℕ) (before after : List ℕ) (v : Result ℕ ℕ) : Type 0 where
   pub acts : (ps : List ℕ) → HoldActs s r (one_held s r h ps fp n) before after v

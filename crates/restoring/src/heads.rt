@@ -1,4 +1,4 @@
-// A generation's head, as a dump tells it, and what is counted while its fingerprints are held.
+// A generation's head, as a dump tells it.
 use model::{Bucket, Class, Second};
 
 #[derive(Clone, Copy)]
@@ -8,11 +8,4 @@ pub struct Head {
     pub newest: u64,
     // The second in which its shares end.
     pub second: Second,
-}
-
-// The draws made for a generation, and whether all of its fingerprints were held so far.
-#[derive(Clone, Copy)]
-pub struct Tally {
-    pub draws: usize,
-    pub fits: bool,
 }

@@ -4,104 +4,82 @@ ghost use Rattle.runs.specs.Turns.{silent};
 ghost use Rattle.model.specs.declared.Deliverer.TheVariants.{Restored};
 ghost use Rattle.model.specs.Dump.{words_of, undrawn_all};
 ghost use Rattle.dump.specs.Walk.{dumped_at, length_at, next_at};
-ghost use Rattle.numbers.specs.RegisterAt.{RegisterAt};
 ghost use Rattle.taking.specs.Words.{RunWords};
-ghost use Rattle.restoring.specs.Rules.{Suits, HoldActs, RestoreActs, AllOnes, all_held, generation_restored};
+ghost use Rattle.restoring.specs.Rules.{Suits, draws_in, HoldActs, RestoreActs, AllOnes, all_held, generation_restored};
 ghost use Rattle.restoring.specs.Words.{Acts};
 
-use crate::heads::{Head, Tally};
+use crate::heads::Head;
 use crate::{on_book, on_register};
-use model::Settings;
-use numbers::starts::RegisterExtent;
+use taking::OneRegister;
 
-// One fingerprint: drawn first, and then struck where there is room.
+// One fingerprint: drawn first, and then struck where there is room. Told is how many draws were made with it, as an error where it
+// is not held.
 fn hold_one(
     run: &mut [u64],
-    s: Settings,
-    r: usize,
-    extent: RegisterExtent,
+    on: &OneRegister,
     h: Head,
     fp: u64,
     draws: usize,
-) -> Tally
-    requires { ((RunWords s run.old × RegisterAt s r extent) × Suits s r h) × (draws < 18_446_744_073_709_551_615) }
-    ensures { RunWords s run.new × (AllOnes s r h fp draws run.old run.new result × (result.draws ≤ draws + 1)) }
+) -> Result<usize, usize>
+    requires { (RunWords on.now.s run.old × Suits on.now.s on.now.r h) × (draws < 18_446_744_073_709_551_615) }
+    ensures { RunWords on.now.s run.new × (AllOnes on.now.s on.now.r h fp draws run.old run.new result × (draws_in result ≤ draws + 1)) }
 {
-    if !on_book::draw(run, s, r, h) {
-        return Tally {
-            draws: draws,
-            fits: false,
-        };
+    if !on_book::draw(run, on, h) {
+        return Err(draws);
     }
-    let fits = on_register::hold(run, s, r, extent, h, fp);
-    Tally {
-        draws: draws + 1,
-        fits: fits,
+    if !on_register::hold(run, on, h, fp) {
+        return Err(draws + 1);
     }
+    Ok(draws + 1)
 }
 
-// The fingerprints of the generation at a word position, up to the first that is not held.
+// The fingerprints of the generation at a word position, up to the first that is not held. Told is how many draws were made for them,
+// as an error where one is not held.
 fn hold_all(
     run: &mut [u64],
-    s: Settings,
-    r: usize,
-    extent: RegisterExtent,
+    on: &OneRegister,
     h: Head,
     bytes: &[u8],
     at: usize,
     long: usize,
-) -> Tally
-    requires { ((RunWords s run.old × RegisterAt s r extent) × Suits s r h) × ((long ≡ length_at (words_of bytes.now) at) × (next_at (words_of bytes.now) at ≤ length bytes.now / 8)) }
-    ensures { RunWords s run.new × HoldActs s r (all_held s r h (dumped_at (words_of bytes.now) at).prints) run.old run.new result }
+) -> Result<usize, usize>
+    requires { (RunWords on.now.s run.old × Suits on.now.s on.now.r h) × ((long ≡ length_at (words_of bytes.now) at) × (next_at (words_of bytes.now) at ≤ length bytes.now / 8)) }
+    ensures { RunWords on.now.s run.new × HoldActs on.now.s on.now.r (all_held on.now.s on.now.r h (dumped_at (words_of bytes.now) at).prints) run.old run.new result }
 {
     let mut draws = 0;
-    let mut k = 0;
-    while k < long {
+    for k in 0..long {
         let fp = dump::print_at(bytes, at, k);
-        let one = hold_one(run, s, r, extent, h, fp, draws);
-        if !one.fits {
-            return one;
-        }
-        draws = one.draws;
-        k += 1;
+        draws = hold_one(run, on, h, fp, draws)?;
     }
-    Tally {
-        draws: draws,
-        fits: true,
-    }
+    Ok(draws)
 }
 
 // So many draws are given back.
-fn give_back_all(run: &mut [u64], s: Settings, r: usize, h: Head, draws: usize)
-    requires { RunWords s run.old × (r < s.registers) }
-    ensures { RunWords s run.new × Acts s r (λ reg k. reg) (λ reg k. undrawn_all draws (Restored h.class) h.second.0 k) (λ reg. silent) run.old run.new (tt {0}) }
+fn give_back_all(run: &mut [u64], on: &OneRegister, h: Head, draws: usize)
+    requires { RunWords on.now.s run.old }
+    ensures { RunWords on.now.s run.new × Acts on.now.s on.now.r (λ reg k. reg) (λ reg k. undrawn_all draws (Restored h.class) h.second.0 k) (λ reg. silent) run.old run.new (tt {0}) }
 {
-    let mut left = draws;
-    while 0 < left {
-        on_book::give_back(run, s, r, h);
-        left -= 1;
+    for _draw in 0..draws {
+        on_book::give_back(run, on, h);
     }
 }
 
 // The generation at a word position: held as a whole, or its draws are given back and it is forgotten.
 pub fn restore_generation(
     run: &mut [u64],
-    s: Settings,
-    r: usize,
-    extent: RegisterExtent,
+    on: &OneRegister,
     h: Head,
     bytes: &[u8],
     at: usize,
     long: usize,
 ) -> bool
-    requires { ((RunWords s run.old × RegisterAt s r extent) × Suits s r h) × ((long ≡ length_at (words_of bytes.now) at) × (next_at (words_of bytes.now) at ≤ length bytes.now / 8)) }
-    ensures { RunWords s run.new × RestoreActs s r (generation_restored s r h (dumped_at (words_of bytes.now) at).prints) run.old run.new result }
+    requires { (RunWords on.now.s run.old × Suits on.now.s on.now.r h) × ((long ≡ length_at (words_of bytes.now) at) × (next_at (words_of bytes.now) at ≤ length bytes.now / 8)) }
+    ensures { RunWords on.now.s run.new × RestoreActs on.now.s on.now.r (generation_restored on.now.s on.now.r h (dumped_at (words_of bytes.now) at).prints) run.old run.new result }
 {
-    let tally = hold_all(run, s, r, extent, h, bytes, at, long);
-    if tally.fits {
+    let Err(draws) = hold_all(run, on, h, bytes, at, long) else {
         return true;
-    }
-    give_back_all(run, s, r, h, tally.draws);
-    on_register::fail(run, s, r, extent, h);
+    };
+    give_back_all(run, on, h, draws);
+    on_register::fail(run, on, h);
     false
 }

@@ -12,48 +12,23 @@ ghost use Rattle.std.specs.Prelude.{◌<◌};
 ghost use Rattle.model.specs.Dump.{words_of};
 ghost use Rattle.model.specs.Calls.{restored, resumed};
 ghost use Rattle.dump.specs.Walk.{Whole, dump_at, dump_end};
-ghost use Rattle.numbers.specs.RegisterAt.{RegisterAt};
 ghost use Rattle.taking.specs.Words.{RunWords, StateTurns};
 ghost use Rattle.restoring.specs.Rules.{RestoreActs, dump_restored, restored_whole, proven_to, resumed_whole};
 
 use model::{Class, Settings};
 use numbers::starts;
-use numbers::starts::RegisterExtent;
+use taking::OneRegister;
 
 // A dump whose lengths have been read: its floor, then its three classes.
-fn restore_dump(
-    run: &mut [u64],
-    s: Settings,
-    r: usize,
-    extent: RegisterExtent,
-    bytes: &[u8],
-) -> bool
-    requires { (RunWords s run.old × RegisterAt s r extent) × Whole bytes.now (dump_end (words_of bytes.now)) }
-    ensures { RunWords s run.new × RestoreActs s r (dump_restored s r (dump_at (words_of bytes.now))) run.old run.new result }
+fn restore_dump(run: &mut [u64], on: &OneRegister, bytes: &[u8]) -> bool
+    requires { RunWords on.now.s run.old × Whole bytes.now (dump_end (words_of bytes.now)) }
+    ensures { RunWords on.now.s run.new × RestoreActs on.now.s on.now.r (dump_restored on.now.s on.now.r (dump_at (words_of bytes.now))) run.old run.new result }
 {
     let floor = dump::floor_word(bytes);
-    on_register::raise_to_dumped(run, s, r, extent, floor);
-    let feeders = classes::restore_class(run, s, r, extent, Class::Feeders, bytes, 1, true);
-    let peers = classes::restore_class(
-        run,
-        s,
-        r,
-        extent,
-        Class::Peers,
-        bytes,
-        feeders.next,
-        feeders.whole,
-    );
-    let own = classes::restore_class(
-        run,
-        s,
-        r,
-        extent,
-        Class::Own,
-        bytes,
-        peers.next,
-        peers.whole,
-    );
+    on_register::raise_to_dumped(run, on, floor);
+    let feeders = classes::restore_class(run, on, Class::Feeders, bytes, 1, true);
+    let peers = classes::restore_class(run, on, Class::Peers, bytes, feeders.next, feeders.whole);
+    let own = classes::restore_class(run, on, Class::Own, bytes, peers.next, peers.whole);
     own.whole
 }
 
@@ -62,28 +37,29 @@ pub fn restore(run: &mut [u64], s: Settings, r: usize, bytes: &[u8]) -> bool
     requires { (RunWords s run.old × (r < s.registers)) × Whole bytes.now (dump_end (words_of bytes.now)) }
     ensures { RunWords s run.new × StateTurns s (λ t. (restored s r t (some (dump_at (words_of bytes.now)))).state) (restored_whole s r (dump_at (words_of bytes.now))) run.old run.new result }
 {
-    let extent = starts::register_extent(s, r);
-    restore_dump(run, s, r, extent, bytes)
+    let on = OneRegister {
+        s,
+        r,
+        extent: starts::register_extent(s, r),
+    };
+    restore_dump(run, &on, bytes)
 }
 
-// The same, and the floor is forgotten first and raised to a proven one after.
-pub fn resume(
-    run: &mut [u64],
-    s: Settings,
-    r: usize,
-    bytes: &[u8],
-    proven: bool,
-    floor: u64,
-) -> bool
+// The same, and the floor is forgotten first and raised to a proven one after, if there is one.
+pub fn resume(run: &mut [u64], s: Settings, r: usize, bytes: &[u8], proven: Option<u64>) -> bool
     requires { (RunWords s run.old × (r < s.registers)) × Whole bytes.now (dump_end (words_of bytes.now)) }
-    ensures { RunWords s run.new × StateTurns s (λ t. (resumed s r t (proven_to proven floor) (some (dump_at (words_of bytes.now)))).state) (resumed_whole s r (dump_at (words_of bytes.now)) (proven_to proven floor)) run.old run.new result }
+    ensures { RunWords s run.new × StateTurns s (λ t. (resumed s r t (proven_to proven) (some (dump_at (words_of bytes.now)))).state) (resumed_whole s r (dump_at (words_of bytes.now)) (proven_to proven)) run.old run.new result }
 {
-    let extent = starts::register_extent(s, r);
-    on_register::forget_floor(run, s, r, extent);
-    let whole = restore_dump(run, s, r, extent, bytes);
-    if !proven {
+    let on = OneRegister {
+        s,
+        r,
+        extent: starts::register_extent(s, r),
+    };
+    on_register::forget_floor(run, &on);
+    let whole = restore_dump(run, &on, bytes);
+    let Some(floor) = proven else {
         return whole;
-    }
-    on_register::raise_floor(run, s, r, extent, floor);
+    };
+    on_register::raise_floor(run, &on, floor);
     whole
 }

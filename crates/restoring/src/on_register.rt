@@ -1,10 +1,8 @@
-// What a restore asks of one register, in the whole run. Where the register lies is computed once for a restore and passed on as its
-// `extent`.
+// What a restore asks of one register, in the whole run. Where the register lies is computed once for a restore.
 ghost use Rattle.runs.specs.Turns.{silent};
 ghost use Rattle.model.specs.Settings.{usable_at};
 ghost use Rattle.model.specs.Register.{raised};
 ghost use Rattle.model.specs.Dump.{raised_to_dumped};
-ghost use Rattle.numbers.specs.RegisterAt.{RegisterAt};
 ghost use Rattle.register.specs.Rules.{failed_at, floor_gone};
 ghost use Rattle.register.specs.Words.{RegisterWords, RegisterTurns};
 ghost use Rattle.taking.specs.Words.{RunWords};
@@ -12,81 +10,66 @@ ghost use Rattle.restoring.specs.Rules.{room_in, fits_in, held_in};
 ghost use Rattle.restoring.specs.Words.{Acts};
 
 use crate::heads::Head;
-use model::{Room, Settings, Usable};
+use model::{Room, Usable};
 use numbers::spans;
-use numbers::starts::RegisterExtent;
+use taking::OneRegister;
 
 // A fingerprint in a register's own words: struck where there is room for it.
 fn hold_in(part: &mut [u64], u: Usable, h: Head, fp: u64) -> bool
     requires { RegisterWords u part.old }
     ensures { RegisterTurns u (held_in u h fp) (λ reg. fits_in (room_in u h fp reg)) part.old part.new result }
 {
-    let class = h.class;
-    let bucket = h.bucket;
     let print = spans::as_read(fp);
-    let Room::At(position) = register::room(part, u, class, bucket, print) else {
+    let Room::At(position) = register::room(part, u, h.class, h.bucket, print) else {
         return false;
     };
-    register::strike(part, u, class, position, bucket, print, h.newest);
+    register::strike(part, u, h.class, position, h.bucket, print, h.newest);
     true
 }
 
 // The same in the run.
-pub fn hold(
-    run: &mut [u64],
-    s: Settings,
-    r: usize,
-    extent: RegisterExtent,
-    h: Head,
-    fp: u64,
-) -> bool
-    requires { RunWords s run.old × RegisterAt s r extent }
-    ensures { RunWords s run.new × Acts s r (λ reg k. held_in (usable_at s r) h fp reg) (λ reg k. k) (λ reg k. fits_in (room_in (usable_at s r) h fp reg)) run.old run.new result }
+pub fn hold(run: &mut [u64], on: &OneRegister, h: Head, fp: u64) -> bool
+    requires { RunWords on.now.s run.old }
+    ensures { RunWords on.now.s run.new × Acts on.now.s on.now.r (λ reg k. held_in (usable_at on.now.s on.now.r) h fp reg) (λ reg k. k) (λ reg k. fits_in (room_in (usable_at on.now.s on.now.r) h fp reg)) run.old run.new result }
 {
-    let a = extent.start;
-    let e = extent.end;
-    hold_in(&mut run[a..e], extent.u, h, fp)
+    hold_in(&mut run[on.extent.start..on.extent.end], on.extent.u, h, fp)
 }
 
 // A generation failed: what its position holds of its bucket is dropped, and the floor rises to the larger of the newest stamp that
 // went with it and the dump's.
-pub fn fail(run: &mut [u64], s: Settings, r: usize, extent: RegisterExtent, h: Head)
-    requires { RunWords s run.old × RegisterAt s r extent }
-    ensures { RunWords s run.new × Acts s r (λ reg k. failed_at h.class h.bucket.0 h.newest reg) (λ reg k. k) (λ reg. silent) run.old run.new (tt {0}) }
+pub fn fail(run: &mut [u64], on: &OneRegister, h: Head)
+    requires { RunWords on.now.s run.old }
+    ensures { RunWords on.now.s run.new × Acts on.now.s on.now.r (λ reg k. failed_at h.class h.bucket.0 h.newest reg) (λ reg k. k) (λ reg. silent) run.old run.new (tt {0}) }
 {
-    let a = extent.start;
-    let e = extent.end;
-    let class = h.class;
-    let bucket = h.bucket;
-    register::fail(&mut run[a..e], extent.u, class, bucket, h.newest);
+    register::fail(
+        &mut run[on.extent.start..on.extent.end],
+        on.extent.u,
+        h.class,
+        h.bucket,
+        h.newest,
+    );
 }
 
 // The floor is raised to a dump's.
-pub fn raise_to_dumped(run: &mut [u64], s: Settings, r: usize, extent: RegisterExtent, floor: u64)
-    requires { RunWords s run.old × RegisterAt s r extent }
-    ensures { RunWords s run.new × Acts s r (λ reg k. raised_to_dumped floor reg) (λ reg k. k) (λ reg. silent) run.old run.new (tt {0}) }
+pub fn raise_to_dumped(run: &mut [u64], on: &OneRegister, floor: u64)
+    requires { RunWords on.now.s run.old }
+    ensures { RunWords on.now.s run.new × Acts on.now.s on.now.r (λ reg k. raised_to_dumped floor reg) (λ reg k. k) (λ reg. silent) run.old run.new (tt {0}) }
 {
-    let a = extent.start;
-    let e = extent.end;
-    register::raise_to_dumped(&mut run[a..e], floor);
+    register::raise_to_dumped(&mut run[on.extent.start..on.extent.end], floor);
 }
 
 // The floor is forgotten.
-pub fn forget_floor(run: &mut [u64], s: Settings, r: usize, extent: RegisterExtent)
-    requires { RunWords s run.old × RegisterAt s r extent }
-    ensures { RunWords s run.new × Acts s r (λ reg k. floor_gone reg) (λ reg k. k) (λ reg. silent) run.old run.new (tt {0}) }
+pub fn forget_floor(run: &mut [u64], on: &OneRegister)
+    requires { RunWords on.now.s run.old }
+    ensures { RunWords on.now.s run.new × Acts on.now.s on.now.r (λ reg k. floor_gone reg) (λ reg k. k) (λ reg. silent) run.old run.new (tt {0}) }
 {
-    let a = extent.start;
-    let e = extent.end;
-    register::forget_floor(&mut run[a..e]);
+    register::forget_floor(&mut run[on.extent.start..on.extent.end]);
 }
 
 // The floor is raised to a stamp.
-pub fn raise_floor(run: &mut [u64], s: Settings, r: usize, extent: RegisterExtent, stamp: u64)
-    requires { RunWords s run.old × RegisterAt s r extent }
-    ensures { RunWords s run.new × Acts s r (λ reg k. raised stamp reg) (λ reg k. k) (λ reg. silent) run.old run.new (tt {0}) }
+pub fn raise_floor(run: &mut [u64], on: &OneRegister, stamp: u64)
+    requires { RunWords on.now.s run.old }
+    ensures { RunWords on.now.s run.new × Acts on.now.s on.now.r (λ reg k. raised stamp reg) (λ reg k. k) (λ reg. silent) run.old run.new (tt {0}) }
 {
-    let a = extent.start;
-    let e = extent.end;
-    register::heading::raise_floor(&mut run[a..e], stamp);
+    register::heading::raise_floor(&mut run[on.extent.start..on.extent.end], stamp);
 }

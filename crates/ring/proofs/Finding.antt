@@ -19,6 +19,7 @@ use Rattle.generation.specs.Rules.{holds_in, room_in}
 use Rattle.generation.specs.Words.{Leads}
 use Rattle.ring.specs.Ring.{places, RingReads, StartsAt, bucket_in}
 use Rattle.ring.proofs.Positions.{place_is}
+use Rattle.ring.proofs.Chunks.{From}
 
 -- ---- the bucket that a position has
 pub bucket_told : (S n at : ℕ) (ws : List ℕ) (a e : ℕ) (g : Leading) → at < n → StartsAt S n at a → e ≡ a + generation_width S → Leads (mid_of a (e - a) ws) g
@@ -60,6 +61,12 @@ module _ (S n fp : ℕ) (ws : List ℕ) where
           let e = ok.0 in
           sym (or-false any) ∙ (rw (drop_of_length-le ring {i = i} (omega arith)) at (l.left ring ok is));
     }
+
+-- as `chunks_exact` lends the positions
+pub record LookedThrough (S n fp : ℕ) (ws : List ℕ) (size : ℕ) (rest : List ℕ) (any : Bool) : Type 0 where
+  pub i : ℕ
+  pub from : From S n ws i size rest
+  pub looked : Looked S n fp ws i any
 
 -- ---- room, where `known` says whether the fingerprint is held
 pub room_reads : (S n b fp at : ℕ) → at ≡ b % n → {ws : List ℕ} {known : Bool} {r : Room}

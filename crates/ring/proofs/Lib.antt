@@ -1,4 +1,5 @@
 pub mod Positions
+pub mod Chunks
 pub mod Finding
 pub mod Striking
 pub mod Sweeping

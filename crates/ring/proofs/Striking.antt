@@ -20,7 +20,7 @@ use Rattle.model.specs.Dump.{drop_bucket}
 use Rattle.model.proofs.RingsKept.{room_at, insert_in_ok, drop_ok}
 use Rattle.generation.specs.Rules.{dropped_in, drop_in_says}
 use Rattle.generation.specs.Words.{Roomy, GenerationReads}
-use Rattle.generation.specs.declared.Dropped.{Dropped}
+use Rattle.std.specs.Prelude.{Option}
 use Rattle.generation.proofs.Looking.{roomy}
 use Rattle.ring.specs.Ring.{places, RingReads, RingTurns, RingWords, StartsAt, inserted_in, drop_bucket_says}
 use Rattle.ring.proofs.Positions.{place_is, placed, of_placed, turned}
@@ -64,10 +64,10 @@ module _ (S n b : ℕ) where
       by_test (eqb (generation_at ring b).bucket b) (λ e. rw e)
       (λ e. rw e (set-get_or ring (b % length ring) empty))
 
-  pub drop_turns : {ws last : List ℕ} {r : Dropped}
+  pub drop_turns : {ws last : List ℕ} {r : Option ℕ}
       → RingTurns S n (λ ring. with_generation ring b (dropped_in b (generation_at ring b))) (λ ring. drop_in_says b (generation_at ring b)) ws last r
       → RingTurns S n (drop_bucket b) (drop_bucket_says b) ws last r
   drop_turns t = turns_as t (λ ring ok is q. (ap (places S n).enc (drop_is ring), q))
 
-  pub dropped_words : {ws last : List ℕ} {r : Dropped} → RingTurns S n (drop_bucket b) (drop_bucket_says b) ws last r → RingWords S n ws → RingWords S n last
+  pub dropped_words : {ws last : List ℕ} {r : Option ℕ} → RingTurns S n (drop_bucket b) (drop_bucket_says b) ws last r → RingWords S n ws → RingWords S n last
   dropped_words t w = let v = w.is in turned S n t w (of_placed S n _ (drop_ok S n b v.value (placed S n v.value v.ok)))

@@ -5,8 +5,12 @@ use native.Mathlib.Numerals.{add-one}
 use native.Mathlib.Omega.{arith}
 use mathlib.Core.Path.{◌≡◌, refl, ap, sym, subst, ◌∙◌}
 use mathlib.Core.List.{List}
-use mathlib.Core.Option.{Option, none, some}
+use Rattle.std.proofs.Math.Option.{Option as Floor, none, some}
 use lib.ListN.{length}
+use lib.Dec.{eqb, ltb}
+use borrow.Author.Tests.{ltb-true, ltb-false}
+use Rattle.std.specs.Ordering.{nat_cmp, ord_max}
+use Rattle.std.specs.Option.{option_cmp}
 use lib.Seq.{set-get_or}
 use Rattle.runs.proofs.Cases.{by_test}
 use Rattle.model.specs.Numbers.{raise}
@@ -14,27 +18,32 @@ use Rattle.model.specs.Generation.{Generation, empty, dropped}
 use Rattle.model.specs.Register.{Ring, generation_at, with_generation, passed, Swept, visit, visits, sweep_ring}
 use Rattle.model.proofs.RingsKept.{visit_ok}
 use Rattle.model.proofs.Peeked.{visit_passed, visit_left}
-use Rattle.generation.specs.declared.Dropped.{Dropped}
-use Rattle.generation.specs.declared.Dropped.TheVariants.{Nothing, Newest}
+use Rattle.std.specs.Prelude.{Option, Some, None}
 use Rattle.generation.specs.Rules.{swept_at, sweep_says, went}
 use Rattle.ring.specs.Ring.{places, RingTurns, RingWords}
 use Rattle.ring.specs.Sweep.{swept_ring, swept_says, newest_of, raised_by}
 use Rattle.ring.proofs.Positions.{placed, of_placed, turned}
 
--- ---- of two drops the newest
-pub newest_first : (a b : Dropped) {n : ℕ} → a ≡ Newest n → b ≡ Nothing → Newest n ≡ newest_of a b
-newest_first a b p q = rw (p, q)
-
-pub newest_both : (a b : Dropped) {n m r : ℕ} → a ≡ Newest n → b ≡ Newest m → r ≡ max n m → Newest r ≡ newest_of a b
-newest_both a b p q e = rw (p, q, e)
+-- ---- of two drops the newest, as the library's `max` has it
+pub newest_is : (a b : Option ℕ) → ord_max (option_cmp nat_cmp) a b ≡ newest_of a b
+newest_is None None = refl
+newest_is None (Some m) = refl
+newest_is (Some n) None = refl
+newest_is (Some n) (Some m) =
+    by_test (ltb m n)
+    (λ e. let h = ltb-true m n e in let k : n ≡ max n m = omega arith in rw e (ap Some k))
+    (λ e.
+    let h = ltb-false m n e in
+    let k : m ≡ max n m = omega arith in
+    by_test (eqb m n) (λ q. rw (e, q) (ap Some k)) (λ q. rw (e, q) (ap Some k)))
 
 -- ---- one visit
-pub went_raised : (floor : Option ℕ) (m : ℕ) → went (raise floor m) ≡ newest_of (went floor) (Newest m)
+pub went_raised : (floor : Floor ℕ) (m : ℕ) → went (raise floor m) ≡ newest_of (went floor) (Some m)
 unfolding raise
 went_raised none m = refl
 went_raised (some f) m = refl
 
-pub went_nothing : (floor : Option ℕ) → went floor ≡ newest_of (went floor) Nothing
+pub went_nothing : (floor : Floor ℕ) → went floor ≡ newest_of (went floor) None
 went_nothing none = refl
 went_nothing (some f) = refl
 
@@ -56,30 +65,30 @@ module _ (through b : ℕ) (w : Swept) where
   visit_fine S n ok = of_placed S n _ (visit_ok S n through b w (placed S n w.ring ok))
 
 -- ---- the loop: of every ring that the words were at first, it stands on the way of that ring's sweep
-pub record OnWay (S n from through : ℕ) (ring : Ring) (b : ℕ) (words : List ℕ) (so_far : Dropped) : Type 0 where
+pub record OnWay (S n from through : ℕ) (ring : Ring) (b : ℕ) (words : List ℕ) (so_far : Option ℕ) : Type 0 where
   pub at : Swept
   pub ok : (places S n).Ok at.ring
   pub are : words ≡ (places S n).enc at.ring
   pub says : so_far ≡ went at.floor
   pub left : visits (through - b) through b at ≡ sweep_ring from through none ring
 
-pub record Sweeps (S n from through : ℕ) (ws : List ℕ) (b : ℕ) (words : List ℕ) (so_far : Dropped) : Type 0 where
+pub record Sweeps (S n from through : ℕ) (ws : List ℕ) (b : ℕ) (words : List ℕ) (so_far : Option ℕ) : Type 0 where
   pub good : RingWords S n words
   pub way : (ring : Ring) → (places S n).Ok ring → ws ≡ (places S n).enc ring → OnWay S n from through ring b words so_far
 
 module _ (S n from through : ℕ) (ws : List ℕ) where
-  pub sweep_start : RingWords S n ws → Sweeps S n from through ws from ws Nothing
+  pub sweep_start : RingWords S n ws → Sweeps S n from through ws from ws None
   unfolding sweep_ring
   sweep_start good = record {
     good = good;
     way = λ ring ok is. record { at = record { floor = none; ring = ring }; ok = ok; are = is; says = refl; left = refl };
   }
 
-  module _ (b : ℕ) (words : List ℕ) (so_far : Dropped) (s : Sweeps S n from through ws b words so_far) where
-    pub sweep_on : b < through → (last : List ℕ) (more : Dropped)
+  module _ (b : ℕ) (words : List ℕ) (so_far : Option ℕ) (s : Sweeps S n from through ws b words so_far) where
+    pub sweep_on : b < through → (last : List ℕ) (more : Option ℕ)
         → RingTurns S n (λ ring. with_generation ring b (swept_at through (generation_at ring b)))
         (λ ring. sweep_says through (generation_at ring b)) words last more
-        → (next : Dropped) → next ≡ newest_of so_far more → Sweeps S n from through ws (b + 1) last next
+        → (next : Option ℕ) → next ≡ newest_of so_far more → Sweeps S n from through ws (b + 1) last next
     unfolding visits
     sweep_on h last more t next e =
         let v = s.good.is in
@@ -113,25 +122,25 @@ module _ (S n from through : ℕ) (ws : List ℕ) where
     )
 
 -- ---- a floor that is there already rises by what went, and the ring does not depend on it
-raise_twice : (x floor : Option ℕ) (m : ℕ) → raised_by (went x) (raise floor m) ≡ raised_by (went (raised_by (went x) (some m))) floor
+raise_twice : (x floor : Floor ℕ) (m : ℕ) → raised_by (went x) (raise floor m) ≡ raised_by (went (raised_by (went x) (some m))) floor
 unfolding raise
 raise_twice none floor m = refl
 raise_twice (some k) none m = refl
 raise_twice (some k) (some f) m = ap some (omega arith)
 
 -- two sweeps on, one from a floor and one from none
-record Tied (f : Option ℕ) (x y : Swept) : Type 0 where
+record Tied (f : Floor ℕ) (x y : Swept) : Type 0 where
   ring : x.ring ≡ y.ring
   floor : x.floor ≡ raised_by (went y.floor) f
 
-tied : (k through b : ℕ) (f : Option ℕ) (x y x' y' : Swept) → visit through b x ≡ x' → visit through b y ≡ y'
+tied : (k through b : ℕ) (f : Floor ℕ) (x y x' y' : Swept) → visit through b x ≡ x' → visit through b y ≡ y'
     → Tied f (visits k through (suc b) x') (visits k through (suc b) y') → Tied f (visits (suc k) through b x) (visits (suc k) through b y)
 unfolding visits
 tied k through b f x y x' y' p q t =
     subst (λ (z : Swept). Tied f (visits k through (suc b) z) (visits k through (suc b) (visit through b y))) (sym p)
     (subst (λ (z : Swept). Tied f (visits k through (suc b) x') (visits k through (suc b) z)) (sym q) t)
 
-visits_law : (k through b : ℕ) (f : Option ℕ) (r : Ring)
+visits_law : (k through b : ℕ) (f : Floor ℕ) (r : Ring)
     → Tied f (visits k through b (record { floor = f; ring = r })) (visits k through b (record { floor = none; ring = r }))
 unfolding visits raise
 visits_law zero through b f r = record { ring = refl; floor = refl }
@@ -143,14 +152,14 @@ visits_law (suc k) through b f r =
     let p = visits_law k through (suc b) (raise f g.newest) after in
     let q = visits_law k through (suc b) (some g.newest) after in
     let x = (visits k through (suc b) (record { floor = none; ring = after })).floor in
-    let went_on = p.floor ∙ raise_twice x f g.newest ∙ ap (λ (z : Option ℕ). raised_by (went z) f) (sym q.floor) in
+    let went_on = p.floor ∙ raise_twice x f g.newest ∙ ap (λ (z : Floor ℕ). raised_by (went z) f) (sym q.floor) in
     by_test (passed through g)
     (λ e.
     tied k through b f from bare _ _ (visit_passed through b from e) (visit_passed through b bare e)
     (record { ring = p.ring ∙ sym q.ring; floor = went_on }))
     (λ e. tied k through b f from bare _ _ (visit_left through b from e) (visit_left through b bare e) (visits_law k through (suc b) f r))
 
-pub sweep_floor : (from through : ℕ) (floor : Option ℕ) (ring : Ring)
+pub sweep_floor : (from through : ℕ) (floor : Floor ℕ) (ring : Ring)
     → ((sweep_ring from through floor ring).ring ≡ swept_ring from through ring)
     × ((sweep_ring from through floor ring).floor ≡ raised_by (swept_says from through ring) floor)
 unfolding sweep_ring

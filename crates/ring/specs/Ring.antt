@@ -1,5 +1,5 @@
 -- A class's ring in its own run of words: a generation of at most S slots for each of n positions.
-use Rattle.std.specs.Prelude.{ℕ, ◌+◌, ◌*◌, ◌%◌, ◌≤◌, ◌<◌, ◌≡◌, List, length, get_or}
+use Rattle.std.specs.Prelude.{ℕ, ◌+◌, ◌*◌, ◌%◌, ◌≤◌, ◌<◌, ◌≡◌, Option, List, length, get_or}
 use Rattle.runs.specs.Form.{Form}
 use Rattle.runs.specs.Combine.{many}
 use Rattle.runs.specs.Turns.{Is, Reads, Turns}
@@ -9,8 +9,8 @@ use Rattle.model.specs.Widths.{generation_width}
 use Rattle.model.specs.GenerationWords.{generation_place}
 use Rattle.model.specs.Register.{Ring, generation_at, with_generation}
 use Rattle.model.specs.Generation.{empty, insert}
-use Rattle.generation.specs.declared.Dropped.{Dropped}
 use Rattle.generation.specs.Rules.{drop_in_says}
+use Rattle.ring.specs.declared.Place.{Place}
 
 -- the form of a ring: `ring_form u` has its S and n from a register's settings
 abbrev pub places : ℕ → ℕ → Form Ring
@@ -45,6 +45,11 @@ pub record StartsAt (S n i r : ℕ) : Type 0 where
   pub start : r ≡ i * generation_width S
   pub within : r + generation_width S ≤ n * generation_width S
 
+-- and its words are as many as a generation's
+pub record PlaceAt (S n i : ℕ) (p : Place) : Type 0 where
+  pub start : StartsAt S n i p.start
+  pub end : p.end ≡ p.start + generation_width S
+
 -- the bucket of the generation at position i
 abbrev pub bucket_in : ℕ → Ring → ℕ
 bucket_in i ring = (get_or ring i empty).bucket
@@ -58,5 +63,5 @@ abbrev pub inserted_in : ℕ → ℕ → ℕ → Ring → Ring
 inserted_in b fp stamp ring = with_generation ring b (insert b fp stamp (generation_at ring b))
 
 -- what `drop_bucket` forgets
-abbrev pub drop_bucket_says : ℕ → Ring → Dropped
+abbrev pub drop_bucket_says : ℕ → Ring → Option ℕ
 drop_bucket_says b ring = drop_in_says b (generation_at ring b)

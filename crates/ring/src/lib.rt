@@ -1,5 +1,5 @@
 // A class's ring: for each position a generation, in one run of words. Bucket b is at position b mod ring. A ring is handed
-// over as its words, the most slots of a generation, and the number of its positions.
+// over as its words and its shape.
 #![tactic(auto)]
 
 mod peeking;
@@ -11,13 +11,48 @@ ghost use Rattle.model.specs.GenerationWords.{generation_place};
 ghost use Rattle.model.specs.Register.{holds, holds_any};
 ghost use Rattle.model.specs.Judge.{make_room};
 ghost use Rattle.model.specs.Dump.{drop_bucket};
-ghost use Rattle.ring.specs.Ring.{Sized, RingWords, RingReads, RingTurns, PositionOf, StartsAt, bucket_in, found_at, inserted_in, drop_bucket_says};
-ghost use Rattle.ring.specs.Sweep.{swept_ring, swept_says, newest_of};
+ghost use Rattle.ring.specs.Ring.{Sized, RingWords, RingReads, RingTurns, PositionOf, PlaceAt, bucket_in, found_at, inserted_in, drop_bucket_says};
+ghost use Rattle.ring.specs.Sweep.{swept_ring, swept_says};
 
-use generation::{Dropped, Generation};
+use generation::Generation;
 use model::{Bucket, Room};
-use numbers::capped;
 pub use peeking::{contains_after, newest_passed, room_after};
+
+// The shape of a ring: the most slots of a generation, and the number of its positions.
+#[derive(Clone, Copy)]
+pub struct Shape {
+    pub slots: usize,
+    pub ring: usize,
+}
+
+// The buckets whose positions a sweep visits: from one up to, not including, another.
+#[derive(Clone, Copy)]
+pub struct Buckets {
+    pub from: Bucket,
+    pub through: Bucket,
+}
+
+// A position's words in those of its ring: from `start` up to `end`.
+#[derive(Clone, Copy)]
+pub(crate) struct Place {
+    pub(crate) start: usize,
+    pub(crate) end: usize,
+}
+
+impl Shape {
+    // Where a position lies.
+    pub(crate) fn place(self, i: usize) -> Place
+        requires { ((i < self.ring) × (self.ring ≤ 256)) × (self.slots ≤ 1024) }
+        ensures { PlaceAt self.slots self.ring i result }
+    {
+        let width = self.slots + Generation::HEAD;
+        let start = i * width;
+        Place {
+            start,
+            end: start + width,
+        }
+    }
+}
 
 // The position of a bucket.
 pub fn position(bucket: Bucket, ring: usize) -> usize
@@ -27,147 +62,93 @@ pub fn position(bucket: Bucket, ring: usize) -> usize
     (bucket.0 % (ring as u64)) as usize
 }
 
-// The word that a position starts at.
-fn start_of(i: usize, slots: usize, ring: usize) -> usize
-    requires { ((i < ring) × (ring ≤ 256)) × (slots ≤ 1024) }
-    ensures { StartsAt slots ring i result }
-{
-    i * (slots + Generation::HEAD)
-}
-
 // The bucket that a position has; where it holds nothing any number, which no rule reads.
-pub fn bucket_at(words: &[u64], slots: usize, ring: usize, at: usize) -> Bucket
-    requires { RingWords slots ring words.now × (at < ring) }
-    ensures { RingReads slots ring (bucket_in at) words.now result.0 }
+pub fn bucket_at(words: &[u64], shape: Shape, at: usize) -> Bucket
+    requires { RingWords shape.slots shape.ring words.now × (at < shape.ring) }
+    ensures { RingReads shape.slots shape.ring (bucket_in at) words.now result.0 }
 {
-    let a = start_of(at, slots, ring);
-    let e = a + (slots + Generation::HEAD);
-    let head = Generation::of(&words[a..e]);
+    let place = shape.place(at);
+    let head = Generation::of(&words[place.start..place.end]);
     Bucket(head.bucket)
 }
 
 // Whether the ring holds a fingerprint in a bucket, whose position is `at`.
-pub fn contains_at(
-    words: &[u64],
-    slots: usize,
-    ring: usize,
-    at: usize,
-    bucket: Bucket,
-    fp: u64,
-) -> bool
-    requires { ((0 < fp) × RingWords slots ring words.now) × PositionOf bucket.0 ring at }
-    ensures { RingReads slots ring (holds bucket.0 fp) words.now result }
+pub fn contains_at(words: &[u64], shape: Shape, at: usize, bucket: Bucket, fp: u64) -> bool
+    requires { ((0 < fp) × RingWords shape.slots shape.ring words.now) × PositionOf bucket.0 shape.ring at }
+    ensures { RingReads shape.slots shape.ring (holds bucket.0 fp) words.now result }
 {
-    let a = start_of(at, slots, ring);
-    let e = a + (slots + Generation::HEAD);
-    generation::contains_in(&words[a..e], bucket, fp)
+    let place = shape.place(at);
+    generation::contains_in(&words[place.start..place.end], bucket, fp)
 }
 
 // Whether it holds it in any.
-pub fn contains_any(words: &[u64], slots: usize, ring: usize, fp: u64) -> bool
-    requires { (0 < fp) × RingWords slots ring words.now }
-    ensures { RingReads slots ring (holds_any fp) words.now result }
+pub fn contains_any(words: &[u64], shape: Shape, fp: u64) -> bool
+    requires { (0 < fp) × RingWords shape.slots shape.ring words.now }
+    ensures { RingReads shape.slots shape.ring (holds_any fp) words.now result }
 {
     let mut any = false;
-    let mut i = 0;
-    while i < ring {
-        let a = start_of(i, slots, ring);
-        let e = a + (slots + Generation::HEAD);
-        let held = generation::contains(&words[a..e], fp);
-        any = any | held;
-        i += 1;
+    for part in words.chunks_exact(shape.slots + Generation::HEAD) {
+        any |= generation::contains(part, fp);
     }
     any
 }
 
 // The room for one more fingerprint of a bucket: its position, or what stands against it.
-pub fn room(words: &[u64], slots: usize, ring: usize, bucket: Bucket, fp: u64) -> Room
-    requires { (0 < fp) × RingWords slots ring words.now }
-    ensures { RingReads slots ring (make_room slots bucket.0 fp) words.now result }
+pub fn room(words: &[u64], shape: Shape, bucket: Bucket, fp: u64) -> Room
+    requires { (0 < fp) × RingWords shape.slots shape.ring words.now }
+    ensures { RingReads shape.slots shape.ring (make_room shape.slots bucket.0 fp) words.now result }
 {
-    let at = position(bucket, ring);
-    let a = start_of(at, slots, ring);
-    let e = a + (slots + Generation::HEAD);
-    let known = generation::contains(&words[a..e], fp);
-    generation::room(&words[a..e], at, bucket, known)
+    let at = position(bucket, shape.ring);
+    let place = shape.place(at);
+    let known = generation::contains(&words[place.start..place.end], fp);
+    generation::room(&words[place.start..place.end], at, bucket, known)
 }
 
 // A fingerprint is inserted at the position where room was found for it.
-pub fn insert(
-    words: &mut [u64],
-    slots: usize,
-    ring: usize,
-    at: usize,
-    bucket: Bucket,
-    fp: u64,
-    stamp: u64,
-)
-    requires { ((0 < fp) × RingWords slots ring words.old) × RingReads slots ring (make_room slots bucket.0 fp) words.old (found_at at) }
-    ensures { RingWords slots ring words.new × RingTurns slots ring (inserted_in bucket.0 fp stamp) silent words.old words.new (tt {0}) }
+pub fn insert(words: &mut [u64], shape: Shape, at: usize, bucket: Bucket, fp: u64, stamp: u64)
+    requires { ((0 < fp) × RingWords shape.slots shape.ring words.old) × RingReads shape.slots shape.ring (make_room shape.slots bucket.0 fp) words.old (found_at at) }
+    ensures { RingWords shape.slots shape.ring words.new × RingTurns shape.slots shape.ring (inserted_in bucket.0 fp stamp) silent words.old words.new (tt {0}) }
 {
-    let a = start_of(at, slots, ring);
-    let e = a + (slots + Generation::HEAD);
-    let known = generation::contains(&words[a..e], fp);
-    generation::insert(&mut words[a..e], known, bucket, fp, stamp);
+    let place = shape.place(at);
+    let known = generation::contains(&words[place.start..place.end], fp);
+    generation::insert(&mut words[place.start..place.end], known, bucket, fp, stamp);
 }
 
 // The generation of a bucket is dropped, if its position has it. Answers the newest that went.
-pub fn drop_bucket(words: &mut [u64], slots: usize, ring: usize, bucket: Bucket) -> Dropped
-    requires { RingWords slots ring words.old }
-    ensures { RingWords slots ring words.new × RingTurns slots ring (drop_bucket bucket.0) (drop_bucket_says bucket.0) words.old words.new result }
+pub fn drop_bucket(words: &mut [u64], shape: Shape, bucket: Bucket) -> Option<u64>
+    requires { RingWords shape.slots shape.ring words.old }
+    ensures { RingWords shape.slots shape.ring words.new × RingTurns shape.slots shape.ring (drop_bucket bucket.0) (drop_bucket_says bucket.0) words.old words.new result }
 {
-    let at = position(bucket, ring);
-    let a = start_of(at, slots, ring);
-    let e = a + (slots + Generation::HEAD);
-    generation::drop_in(&mut words[a..e], bucket)
+    let at = position(bucket, shape.ring);
+    let place = shape.place(at);
+    generation::drop_in(&mut words[place.start..place.end], bucket)
 }
 
-// Of two drops, the newest that went.
-fn newest(first: Dropped, second: Dropped) -> Dropped
-    ensures { result ≡ newest_of first second }
+// Where a sweep visits a held generation of a bucket before `through`, it is dropped. Answers the newest that went: of two
+// drops the larger, since None is the least.
+pub fn sweep(words: &mut [u64], shape: Shape, buckets: Buckets) -> Option<u64>
+    requires { RingWords shape.slots shape.ring words.old }
+    ensures { RingWords shape.slots shape.ring words.new × RingTurns shape.slots shape.ring (swept_ring buckets.from.0 buckets.through.0) (swept_says buckets.from.0 buckets.through.0) words.old words.new result }
 {
-    match first {
-        Dropped::Nothing => second,
-        Dropped::Newest(n) => match second {
-            Dropped::Nothing => first,
-            Dropped::Newest(m) => Dropped::Newest(capped::larger(n, m)),
-        },
-    }
-}
-
-// The positions of the buckets from one up to, not including, another are visited: a held generation of a bucket before
-// `through` is dropped. Answers the newest that went.
-pub fn sweep(words: &mut [u64], slots: usize, ring: usize, from: Bucket, through: Bucket) -> Dropped
-    requires { RingWords slots ring words.old }
-    ensures { RingWords slots ring words.new × RingTurns slots ring (swept_ring from.0 through.0) (swept_says from.0 through.0) words.old words.new result }
-{
-    let mut went = Dropped::Nothing;
-    let mut b = from.0;
-    let end = through.0;
-    while b < end {
-        let at = position(Bucket(b), ring);
-        let a = start_of(at, slots, ring);
-        let e = a + (slots + Generation::HEAD);
-        let more = generation::sweep_one(&mut words[a..e], through);
-        went = newest(went, more);
-        b += 1;
+    let mut went = None;
+    for b in buckets.from.0..buckets.through.0 {
+        let at = position(Bucket(b), shape.ring);
+        let place = shape.place(at);
+        let more = generation::sweep_one(&mut words[place.start..place.end], buckets.through);
+        went = went.max(more);
     }
     went
 }
 
 // The words of a ring are sound, whatever they are.
-pub fn is_sound(words: &[u64], slots: usize, ring: usize) -> bool
-    requires { Sized slots ring words.now }
-    ensures { result ≡ test_all (generation_place slots ring) 0 ring words.now }
+pub fn is_sound(words: &[u64], shape: Shape) -> bool
+    requires { Sized shape.slots shape.ring words.now }
+    ensures { result ≡ test_all (generation_place shape.slots shape.ring) 0 shape.ring words.now }
 {
+    let width = shape.slots + Generation::HEAD;
     let mut all = true;
-    let mut i = 0;
-    while i < ring {
-        let a = start_of(i, slots, ring);
-        let e = a + (slots + Generation::HEAD);
-        let sound = generation::is_sound(&words[a..e], ring as u64, i as u64);
-        all = all & sound;
-        i += 1;
+    for (i, part) in words.chunks_exact(width).enumerate() {
+        all &= generation::is_sound(part, shape.ring as u64, i as u64);
     }
     all
 }

@@ -6,10 +6,12 @@
 ghost use Rattle.std.specs.Prelude.{◌≡◌, true, ◌<◌};
 ghost use Rattle.ring.specs.Ring.{RingWords};
 
-use generation::Dropped;
 use model::{Bucket, Room};
 use numbers::layout;
+use ring::{Buckets, Shape};
 use std::io;
+
+const SHAPE: Shape = Shape { slots: 4, ring: 3 };
 
 // The words of a position, and of the ring.
 const WIDTH: usize = 4 + layout::GENERATION_HEAD;
@@ -24,10 +26,8 @@ fn print(rt: &impl Print, n: u64, end: u8) -> io::Result<()> {
 // The answer's code, then the words.
 fn show(rt: &impl Print, says: u64, words: &[u64]) -> io::Result<()> {
     print(rt, says, b':')?;
-    let mut i = 0;
-    while i < words.len() {
-        print(rt, words[i], b' ')?;
-        i += 1;
+    for word in words {
+        print(rt, *word, b' ')?;
     }
     rt.write_all(&[b'\n'])
 }
@@ -36,10 +36,7 @@ fn show(rt: &impl Print, says: u64, words: &[u64]) -> io::Result<()> {
 fn is_ring(words: &[u64]) -> bool
     ensures { result ≡ true → RingWords 4 3 words.now }
 {
-    if words.len() != WORDS {
-        return false;
-    }
-    ring::is_sound(words, 4, 3)
+    words.len() == WORDS && ring::is_sound(words, SHAPE)
 }
 
 // Inserts a fingerprint: 1 where it did, 2 where another bucket is held, 3 where there is no room, and 0 for unsound words.
@@ -49,12 +46,11 @@ fn strike(words: &mut [u64], bucket: Bucket, fp: u64, stamp: u64) -> u64
     if !is_ring(words) {
         return 0;
     }
-    let room = ring::room(words, 4, 3, bucket, fp);
-    match room {
+    match ring::room(words, SHAPE, bucket, fp) {
         Room::Collides => 2,
         Room::Full => 3,
         Room::At(at) => {
-            ring::insert(words, 4, 3, at, bucket, fp, stamp);
+            ring::insert(words, SHAPE, at, bucket, fp, stamp);
             1
         }
     }
@@ -67,38 +63,36 @@ fn look(words: &[u64], bucket: Bucket, fp: u64) -> u64
     if !is_ring(words) {
         return 0;
     }
-    let at = ring::position(bucket, 3);
-    let here = ring::contains_at(words, 4, 3, at, bucket, fp);
-    let any = ring::contains_any(words, 4, 3, fp);
+    let at = ring::position(bucket, SHAPE.ring);
+    let here = ring::contains_at(words, SHAPE, at, bucket, fp);
+    let any = ring::contains_any(words, SHAPE, fp);
     if here {
-        return 3;
+        3
+    } else if any {
+        2
+    } else {
+        0
     }
-    if any {
-        return 2;
-    }
-    0
 }
 
 // The newest stamp that went, or 0.
-fn stamp_of(went: Dropped) -> u64 {
-    match went {
-        Dropped::Nothing => 0,
-        Dropped::Newest(stamp) => stamp,
-    }
-}
-
 fn drop_bucket(words: &mut [u64], bucket: Bucket) -> u64 {
     if !is_ring(words) {
         return 0;
     }
-    stamp_of(ring::drop_bucket(words, 4, 3, bucket))
+    ring::drop_bucket(words, SHAPE, bucket).unwrap_or(0)
 }
 
-fn sweep(words: &mut [u64], from: Bucket, through: Bucket) -> u64 {
+// The same of a sweep.
+fn sweep(words: &mut [u64], from: u64, through: u64) -> u64 {
     if !is_ring(words) {
         return 0;
     }
-    stamp_of(ring::sweep(words, 4, 3, from, through))
+    let buckets = Buckets {
+        from: Bucket(from),
+        through: Bucket(through),
+    };
+    ring::sweep(words, SHAPE, buckets).unwrap_or(0)
 }
 
 fn main(rt: HostRuntime) -> io::Result<()> {
@@ -129,11 +123,11 @@ fn main(rt: HostRuntime) -> io::Result<()> {
     show(&rt, says, &words)?;
     says = drop_bucket(&mut words, Bucket(8));
     show(&rt, says, &words)?;
-    says = sweep(&mut words, Bucket(5), Bucket(7));
+    says = sweep(&mut words, 5, 7);
     show(&rt, says, &words)?;
     says = strike(&mut words, Bucket(9), 5, 400);
     show(&rt, says, &words)?;
-    says = sweep(&mut words, Bucket(7), Bucket(10));
+    says = sweep(&mut words, 7, 10);
     show(&rt, says, &words)?;
     words[2 * WIDTH + layout::GENERATION_HEAD] = 5;
     says = strike(&mut words, Bucket(6), 5, 1);

@@ -1,6 +1,5 @@
 pub mod Cases
 pub mod Words
-pub mod Loops
 pub mod Firsts
 pub mod Chunks
 pub mod Each

@@ -2,14 +2,17 @@
 use Prim.Native.Nat.{ℕ, zero, suc, ◌+◌, ◌-◌, ◌≤◌}
 use native.Mathlib.Omega.{arith}
 use mathlib.Core.Path.{◌≡◌, refl, sym, ◌∙◌, ap₂, ap}
-use mathlib.Core.Bool.{true, false}
+use mathlib.Core.Bool.{true, ◌&&◌, and_assoc, and-true}
 use mathlib.Core.List.{List, [], ◌∷◌, ◌++◌}
 use lib.ListN.{length, get_or, take, drop, replicate, length-append, length-replicate}
 use lib.Seq.{take-append-add, length-take-le, take-nil}
 use lib.Dec.{eqb}
-use borrow.Author.Tests.{eq-eqb, eqb-true}
+use lib.Pointwise.{pointwise}
+use lib.Bits.{bit_or, or_zero_l, or_add_and, and_le_r}
+use borrow.Author.Tests.{eq-eqb, eqb-true, ne_eqb}
+use Rattle.std.specs.List.{fold}
 use Rattle.runs.specs.Words.{zeros, same_words, pad}
-use Rattle.runs.proofs.Cases.{by_test, both_true}
+use Rattle.runs.proofs.Cases.{both_true}
 
 -- ---- zeros: words that pass are zeros, and zeros pass
 pub zeros_are : (ws : List ℕ) → zeros ws ≡ true → ws ≡ replicate (length ws) 0
@@ -22,7 +25,7 @@ unfolding zeros
 zeros_pass zero = refl
 zeros_pass (suc n) = zeros_pass n
 
--- ---- equal runs: words that pass are equal, equal ones pass, and runs of two lengths do not
+-- ---- equal runs: words that pass are equal, and equal ones pass
 pub same_are : (a b : List ℕ) → same_words a b ≡ true → a ≡ b
 unfolding same_words
 same_are [] [] t = refl
@@ -35,8 +38,20 @@ unfolding same_words
 same_pass [] = refl
 same_pass (v ∷ a) = rw (eq-eqb v v refl) (same_pass a)
 
-pub same_long : (a b : List ℕ) → (length a ≡ length b → ⊥) → false ≡ same_words a b
-same_long a b differ = by_test (same_words a b) (λ e. absurd (differ (ap length (same_are a b e)))) (λ e. sym e)
+-- ---- the bits of all words gathered in one: two words together have no bit exactly where neither has one
+no_bit : (a b : ℕ) → eqb (bit_or a b) 0 ≡ (eqb a 0 && eqb b 0)
+no_bit zero b = ap (λ (w : ℕ). eqb w 0) (or_zero_l b)
+no_bit (suc a) b =
+    ne_eqb (bit_or (suc a) b) 0 (λ e. absurd (omega (arith, e, or_add_and (suc a) b, and_le_r (suc a) b)))
+    ∙ sym (rw (ne_eqb (suc a) 0 (λ e. absurd (omega (arith, e)))))
+
+gathered : (any : ℕ) (ws : List ℕ) → eqb (fold bit_or any ws) 0 ≡ (eqb any 0 && zeros ws)
+unfolding zeros
+gathered any [] = sym (and-true (eqb any 0))
+gathered any (w ∷ ws) = rw (gathered (bit_or any w) ws, no_bit, and_assoc)
+
+pub zeros_gathered : (ws : List ℕ) → eqb (fold bit_or 0 ws) 0 ≡ zeros ws
+zeros_gathered ws = gathered 0 ws
 
 -- ---- a run filled up: it has n words, and a list that fits stands there whole
 pub length_pad : (n : ℕ) (ws : List ℕ) → length (pad n ws) ≡ n

@@ -18,6 +18,7 @@ use Rattle.model.specs.Words.{State}
 use Rattle.model.specs.Calls.{register_at}
 use Rattle.model.proofs.Reasons.{batch_says}
 use Rattle.numbers.specs.declared.starts.RegisterExtent.{RegisterExtent}
+use Rattle.numbers.specs.RegisterAt.{RegisterAt}
 use Rattle.register.specs.declared.judging.Ask.{Ask as Asked}
 use Rattle.register.specs.declared.peeking.Seen.{Seen}
 use Rattle.register.specs.Rules.{asked_by}
@@ -40,7 +41,7 @@ module _ (q : Quest) (t : State) where
   u = usable_for q
 
   abbrev reg : Register
-  reg = register_at q.r t
+  reg = register_at q.on.r t
 
   abbrev a : Ask
   a = asked_by q.ask
@@ -49,7 +50,7 @@ module _ (q : Quest) (t : State) where
   after = sweep u a.ms reg
 
   -- what was seen is what the sweep would do
-  module _ (seen : q.seen ≡ seen_at q.s q.r a.ms t) where
+  module _ (seen : q.seen ≡ seen_at q.on.s q.on.r a.ms t) where
     left : left_by q.seen reg ≡ after
     unfolding seen_at
     left = ap (λ (x : Seen). left_by x reg) seen ∙ left_is u a.ms reg
@@ -59,13 +60,13 @@ module _ (q : Quest) (t : State) where
     same_floor = ap (λ (x : Register). x.floor) left
 
     -- so the verdict is that of `take_batch`
-    same_at : (x : ℕ) → verdict_seen q x t ≡ batch_at u q.s.shares reg t.book a x
+    same_at : (x : ℕ) → verdict_seen q x t ≡ batch_at u q.on.s.shares reg t.book a x
     unfolding verdict_seen batch_at reason_seen reason
     same_at x =
-        ap (λ (y : Register). batch_verdict u (asked_at q x) (first_rule (rules u q.s.shares y t.book (asked_at q x)))) left
-        ∙ sym (batch_says u q.s.shares reg t.book (asked_at q x))
+        ap (λ (y : Register). batch_verdict u (asked_at q x) (first_rule (rules u q.on.s.shares y t.book (asked_at q x)))) left
+        ∙ sym (batch_says u q.on.s.shares reg t.book (asked_at q x))
 
-    same_gives : gives q t ≡ (λ x. same_verdict q.wanted (batch_at u q.s.shares reg t.book a x))
+    same_gives : gives q t ≡ (λ x. same_verdict q.wanted (batch_at u q.on.s.shares reg t.book a x))
     same_gives = λ i x. same_verdict q.wanted (same_at x i)
 
     -- and the stamps are those of the register after the sweep
@@ -73,7 +74,7 @@ module _ (q : Quest) (t : State) where
         (least_from (gives q t) (ring_stamps u reg.rings.of_peers)
         (least_from (gives q t) (ring_stamps u reg.rings.of_feeders)
         (least_from (gives q t) (window_stamps u a.ms) (least_from (gives q t) (edge_stamps (window_for u a.who) a.ms (seen_floor q.seen)) none))))
-        ≡ sought_by q.s q.r a q.wanted t
+        ≡ sought_by q.on.s q.on.r a q.wanted t
     unfolding sought_by stamp_for stamps
     all_tried =
         let own = swept_stamps u a.ms reg Own in
@@ -82,9 +83,9 @@ module _ (q : Quest) (t : State) where
         rw (← same_gives, least_append, least_append, least_append, least_append, own, peers, feeders, same_floor) refl
 
 -- ---- every part of the list, one after the other
-module _ (s : Settings) (r : ℕ) (extent : RegisterExtent) (seen : Seen) (ask : Asked) (wanted : Verdict) where
+module _ (s : Settings) (r : ℕ) (extent : RegisterExtent) (at : RegisterAt s r extent) (seen : Seen) (ask : Asked) (wanted : Verdict) where
   abbrev quest : Quest
-  quest = record { s = s; r = r; extent = extent; seen = seen; ask = ask; wanted = wanted }
+  quest = record { on = record { s = s; r = r; extent = extent; at = at }; seen = seen; ask = ask; wanted = wanted }
 
   pub sought_told : (ws : List ℕ) (edges window feeders peers own : Option ℕ) → StateReads s (seen_at s r ask.now.0) ws seen
       → StateReads s (edges_seen quest) ws edges → StateReads s (least_seen quest (window_stamps (usable_at s r) ask.now.0) edges) ws window

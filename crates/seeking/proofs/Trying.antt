@@ -1,18 +1,17 @@
 -- The least stamp of the list, found one stamp at a time. Each law is said of every state that the words may be, as the contracts are. Assumes
 -- nothing.
-use Prim.Native.Nat.{ℕ, suc, ◌+◌, ◌-◌, ◌≤◌, ◌<◌}
+use Prim.Native.Nat.{ℕ, suc, ◌+◌, ◌-◌, ◌^◌, ◌≤◌, ◌<◌, min}
 use native.Mathlib.Omega.{arith}
 use native.Mathlib.Numerals.{add-one}
 use mathlib.Core.Path.{◌≡◌, refl, sym, ◌∙◌, ap}
-use mathlib.Core.Bool.{Bool, true, false, cond, not, ◌&&◌}
-use mathlib.Core.List.{List}
+use mathlib.Core.Bool.{Bool, true, false, not}
+use mathlib.Core.List.{List, [], ◌∷◌}
 use mathlib.Core.Option.{Option, none, some}
-use lib.Dec.{leb}
-use lib.ListN.{length, drop, drop_of_length-le}
+use lib.ListN.{length, get_or, drop, drop_of_length-le}
 use lib.Seq.{drop-cons}
-use borrow.Author.Tests.{leb-true, leb-false, lt-ltb, le-ltb, not-true, not-false}
+use borrow.Author.Tests.{not-true, not-false}
 use borrow.Rule.Slice.PartMut.{mid_of}
-use Rattle.runs.proofs.Cases.{no}
+use Rattle.std.specs.Prelude.{Some, None}
 use Rattle.runs.proofs.Turns.{reads_as}
 use Rattle.model.specs.declared.Class.{Class}
 use Rattle.model.specs.declared.Reason.{Reason}
@@ -39,83 +38,94 @@ use Rattle.taking.proofs.InRun.{register_reads}
 use Rattle.taking.specs.Words.{StateReads}
 use Rattle.taking.specs.Reasons.{reason_seen}
 use Rattle.seeking.specs.declared.asking.Quest.{Quest}
-use Rattle.seeking.specs.declared.tries.Best.{Best}
-use Rattle.seeking.specs.Seeking.{best_of, usable_for, asked_at, verdict_seen, gives, better_seen, least_seen, edges_seen, around_bucket, bucket_seen, ring_seen}
+use Rattle.seeking.specs.Seeking.{usable_for, asked_at, verdict_seen, gives, better_seen, least_seen, edges_seen, around_bucket, bucket_seen, ring_seen}
 
 -- ---- the verdict at a stamp
-pub verdict_told : (q : Quest) (x : ℕ) (ws : List ℕ) (why : Reason) (w : Window) (past : Bool) (v last : Verdict) → RegisterAt q.s q.r q.extent
-    → StateReads q.s (reason_seen q.s q.r q.seen (asked_at q x)) ws why → w ≡ window_for q.extent.u q.ask.who
-    → past ≡ front_past w x q.ask.now.0 → v ≡ reason_verdict why → last ≡ ahead_for past v → StateReads q.s (verdict_seen q x) ws last
+pub verdict_told : (q : Quest) (x : ℕ) (ws : List ℕ) (why : Reason) (w : Window) (past : Bool) (v last : Verdict) → RegisterAt q.on.s q.on.r q.on.extent
+    → StateReads q.on.s (reason_seen q.on.s q.on.r q.seen (asked_at q x)) ws why → w ≡ window_for q.on.extent.u q.ask.who
+    → past ≡ front_past w x q.ask.now.0 → v ≡ reason_verdict why → last ≡ ahead_for past v → StateReads q.on.s (verdict_seen q x) ws last
 unfolding verdict_seen batch_verdict
 verdict_told q x ws why w past v last at t window front named turned =
     reads_as t (λ state ok is e. turned ∙ rw (front, window, at.usable, named, e))
 
 -- ---- a stamp more
-found_below : (found : Bool) (stamp x : ℕ) → (found && leb stamp x) ≡ true → below x (cond found (some stamp) none) ≡ false
-found_below true stamp x e = le-ltb x stamp (leb-true stamp x e)
-found_below false stamp x e = no (cc)
-
-none_below : (found : Bool) (stamp x : ℕ) → (found && leb stamp x) ≡ false → below x (cond found (some stamp) none) ≡ true
-none_below true stamp x e = lt-ltb x stamp (leb-false stamp x e)
-none_below false stamp x e = refl
-
-module _ (q : Quest) (x : ℕ) (best : Best) (ws : List ℕ) where
-  pub better_past : (best.found && leb best.stamp x) ≡ true → StateReads q.s (better_seen q x (best_of best)) ws (best_of best)
+module _ (q : Quest) (x : ℕ) (best : Option ℕ) (ws : List ℕ) (low : Bool) (is_low : low ≡ below x best) where
+  pub better_past : not low ≡ true → StateReads q.on.s (better_seen q x best) ws best
   unfolding better_seen better
-  better_past e = record { says = λ state ok is. rw (found_below best.found best.stamp x e) refl }
+  better_past e = record { says = λ state ok is. rw (← is_low, not-true low e) refl }
 
-  module _ (v : Verdict) (same : Bool) (lower : (best.found && leb best.stamp x) ≡ false) (t : StateReads q.s (verdict_seen q x) ws v)
-      (is_same : same ≡ same_verdict q.wanted v) where
-    pub better_found : same ≡ true → StateReads q.s (better_seen q x (best_of best)) ws (some x)
+  module _ (v : Verdict) (same : Bool) (lower : not low ≡ false) (t : StateReads q.on.s (verdict_seen q x) ws v) (is_same : same ≡ same_verdict q.wanted v) where
+    pub better_found : same ≡ true → StateReads q.on.s (better_seen q x best) ws (some x)
     unfolding better_seen better
     better_found e =
         reads_as t (λ state ok is says.
         let m : gives q state x ≡ true = ap (same_verdict q.wanted) (sym says) ∙ sym is_same ∙ e in
-        rw (none_below best.found best.stamp x lower, m) refl)
+        rw (← is_low, not-false low lower, m) refl)
 
-    pub better_not : same ≡ false → StateReads q.s (better_seen q x (best_of best)) ws (best_of best)
+    pub better_not : same ≡ false → StateReads q.on.s (better_seen q x best) ws best
     unfolding better_seen better
     better_not e =
         reads_as t (λ state ok is says.
         let m : gives q state x ≡ false = ap (same_verdict q.wanted) (sym says) ∙ sym is_same ∙ e in
-        rw (none_below best.found best.stamp x lower, m) refl)
+        rw (← is_low, not-false low lower, m) refl)
 
 -- ---- the floor
-pub floor_none : (q : Quest) (best : Option ℕ) (ws : List ℕ) → not q.seen.present ≡ true
-    → StateReads q.s (least_seen q (floor_stamps (seen_floor q.seen)) best) ws best
+pub floor_none : (q : Quest) (best : Option ℕ) (ws : List ℕ) → q.seen.floor ≡ None
+    → StateReads q.on.s (least_seen q (floor_stamps (seen_floor q.seen)) best) ws best
 unfolding least_seen least_from floor_stamps
-floor_none q best ws e = record { says = λ state ok is. rw (not-true q.seen.present e) refl }
+floor_none q best ws e = record { says = λ state ok is. rw e refl }
 
-pub floor_some : (q : Quest) (best last : Option ℕ) (ws : List ℕ) (x : ℕ) → not q.seen.present ≡ false → x ≡ cap64 (q.seen.floor + 1)
-    → StateReads q.s (better_seen q x best) ws last → StateReads q.s (least_seen q (floor_stamps (seen_floor q.seen)) best) ws last
-unfolding least_seen least_from floor_stamps better_seen
-floor_some q best last ws x e i t = reads_as t (λ state ok is says. says ∙ rw (not-false q.seen.present e, i) refl)
+pub floor_some : (q : Quest) (best last : Option ℕ) (ws : List ℕ) (x f : ℕ) → q.seen.floor ≡ Some f → x ≡ min (f + 1) (2 ^ 64 - 1)
+    → StateReads q.on.s (better_seen q x best) ws last → StateReads q.on.s (least_seen q (floor_stamps (seen_floor q.seen)) best) ws last
+unfolding least_seen least_from floor_stamps better_seen cap64
+floor_some q best last ws x f e i t = reads_as t (λ state ok is says. says ∙ rw (e, i) refl)
 
 -- ---- the four edges
-front_capped : (ms ahead : ℕ) → cap64 (cap64 (ms + ahead) + 1) ≡ cap64 (ms + ahead + 1)
+front_capped : (ms ahead : ℕ) → min (min (ms + ahead) (2 ^ 64 - 1) + 1) (2 ^ 64 - 1) ≡ cap64 (ms + ahead + 1)
 unfolding cap64
 front_capped ms ahead = omega arith
 
-pub edges_told : (q : Quest) (ws : List ℕ) (w : Window) (x front y : ℕ) (zero first past last : Option ℕ) → RegisterAt q.s q.r q.extent
-    → w ≡ window_for q.extent.u q.ask.who → StateReads q.s (better_seen q 0 none) ws zero → x ≡ q.ask.now.0 - w.behind
-    → StateReads q.s (better_seen q x zero) ws first → front ≡ cap64 (q.ask.now.0 + w.ahead) → y ≡ cap64 (front + 1)
-    → StateReads q.s (better_seen q y first) ws past → StateReads q.s (least_seen q (floor_stamps (seen_floor q.seen)) past) ws last
-    → StateReads q.s (edges_seen q) ws last
-unfolding edges_seen edge_stamps least_seen least_from better_seen
-edges_told q ws w x front y zero first past last at window a i b j k c d = record {
+pub edges_told : (q : Quest) (ws : List ℕ) (w : Window) (x front y : ℕ) (edges last : Option ℕ) → RegisterAt q.on.s q.on.r q.on.extent
+    → w ≡ window_for q.on.extent.u q.ask.who → x ≡ q.ask.now.0 - w.behind → front ≡ min (q.ask.now.0 + w.ahead) (2 ^ 64 - 1)
+    → y ≡ min (front + 1) (2 ^ 64 - 1)
+    → StateReads q.on.s (least_seen q (0 ∷ x ∷ y ∷ []) none) ws edges → StateReads q.on.s (least_seen q (floor_stamps (seen_floor q.seen)) edges) ws last
+    → StateReads q.on.s (edges_seen q) ws last
+unfolding edges_seen edge_stamps least_seen least_from
+edges_told q ws w x front y edges last at window i j k a b = record {
   says = λ state ok is.
       let ms = q.ask.now.0 in
-      let e = d.says state ok is in
-      let f = c.says state ok is in
-      let g = b.says state ok is in
-      let h = a.says state ok is in
-      e ∙ rw (f, g, h, k, j, i, window, at.usable, front_capped ms (window_for (usable_for q) q.ask.who).ahead) refl;
+      let e = b.says state ok is in
+      let f = a.says state ok is in
+      let here : w ≡ window_for (usable_for q) q.ask.who = window ∙ ap (λ (u : Usable). window_for u q.ask.who) at.usable in
+      e ∙ rw (f, k, j, i, here, front_capped ms (window_for (usable_for q) q.ask.who).ahead) refl;
 }
+
+-- ---- a list: the loop has tried k of its stamps
+pub record Listed (q : Quest) (ws xs : List ℕ) (first : Option ℕ) (k : ℕ) (best : Option ℕ) : Type 0 where
+  pub left : (state : State) → (state_form q.on.s).Ok state → ws ≡ (state_form q.on.s).enc state
+      → least_from (gives q state) (drop k xs) best ≡ least_from (gives q state) xs first
+
+module _ (q : Quest) (ws xs : List ℕ) (first : Option ℕ) where
+  pub list_start : Listed q ws xs first 0 first
+  list_start = record { left = λ state ok is. refl }
+
+  pub list_on : (k : ℕ) (best next : Option ℕ) → Listed q ws xs first k best → k < length xs → StateReads q.on.s (better_seen q (get_or xs k 0) best) ws next
+      → Listed q ws xs first (k + 1) next
+  unfolding least_from better_seen
+  list_on k best next l h t = record {
+    left = λ state ok is.
+        let e = rw (drop-cons xs k 0 h) at (l.left state ok is) in
+        rw (add-one, t.says state ok is) e;
+  }
+
+  pub list_end : (k : ℕ) (best : Option ℕ) → Listed q ws xs first k best → length xs ≤ k → StateReads q.on.s (least_seen q xs first) ws best
+  unfolding least_seen least_from
+  list_end k best l h = record { says = λ state ok is. rw (drop_of_length-le xs {i = k} h) at (l.left state ok is) }
 
 -- ---- the buckets of a window: the loop has tried k of them
 pub record Windowed (q : Quest) (ws : List ℕ) (through n : ℕ) (first : Option ℕ) (k : ℕ) (best : Option ℕ) : Type 0 where
   pub within : k ≤ n
-  pub left : (state : State) → (state_form q.s).Ok state → ws ≡ (state_form q.s).enc state
+  pub left : (state : State) → (state_form q.on.s).Ok state → ws ≡ (state_form q.on.s).enc state
       → least_from (gives q state) (bucket_stamps (usable_for q) (through + k) (n - k)) best ≡ least_from (gives q state) (bucket_stamps (usable_for q) through n) first
 
 module _ (q : Quest) (ws : List ℕ) (through n : ℕ) (first : Option ℕ) where
@@ -126,8 +136,8 @@ module _ (q : Quest) (ws : List ℕ) (through n : ℕ) (first : Option ℕ) wher
       record { within = omega arith; left = λ state ok is. rw (a, b) refl }
 
   module _ (k : ℕ) (best : Option ℕ) (l : Windowed q ws through n first k best) where
-    pub window_on : k < n → (x : ℕ) (next : Option ℕ) → RegisterAt q.s q.r q.extent → x ≡ first_stamp q.extent.u (through + k)
-        → StateReads q.s (better_seen q x best) ws next → Windowed q ws through n first (k + 1) next
+    pub window_on : k < n → (x : ℕ) (next : Option ℕ) → RegisterAt q.on.s q.on.r q.on.extent → x ≡ first_stamp q.on.extent.u (through + k)
+        → StateReads q.on.s (better_seen q x best) ws next → Windowed q ws through n first (k + 1) next
     unfolding bucket_stamps least_from better_seen
     window_on h x next at i t =
         let one : n - k ≡ suc (n - suc k) = omega arith in
@@ -138,73 +148,77 @@ module _ (q : Quest) (ws : List ℕ) (through n : ℕ) (first : Option ℕ) wher
           left = λ state ok is. rw (add-one, two, t.says state ok is, here) (rw one at (l.left state ok is));
         }
 
-    pub window_end : n ≤ k → RegisterAt q.s q.r q.extent → through ≡ through_of q.extent.u q.ask.now.0 → n ≡ ring_of q.extent.u
-        → StateReads q.s (least_seen q (window_stamps (usable_for q) q.ask.now.0) first) ws best
+    pub window_end : n ≤ k → RegisterAt q.on.s q.on.r q.on.extent → through ≡ through_of q.on.extent.u q.ask.now.0 → n ≡ ring_of q.on.extent.u
+        → StateReads q.on.s (least_seen q (window_stamps (usable_for q) q.ask.now.0) first) ws best
     unfolding window_stamps bucket_stamps least_seen least_from
     window_end h at e m = record {
       says = λ state ok is.
           let z : n - k ≡ 0 = omega arith in
-          rw z at (l.left state ok is) ∙ rw (e, m, at.usable) refl;
+          let from : through ≡ through_of (usable_for q) q.ask.now.0 = e ∙ ap (λ (u : Usable). through_of u q.ask.now.0) at.usable in
+          let all : n ≡ ring_of (usable_for q) = m ∙ ap ring_of at.usable in
+          rw z at (l.left state ok is) ∙ rw (from, all) refl;
     }
 
 -- ---- a bucket and the one after it
-pub around_told : (q : Quest) (ws : List ℕ) (b x y : ℕ) (best mid last : Option ℕ) → RegisterAt q.s q.r q.extent → x ≡ first_stamp q.extent.u (b + 0)
-    → StateReads q.s (better_seen q x best) ws mid → y ≡ first_stamp q.extent.u (b + 1) → StateReads q.s (better_seen q y mid) ws last
-    → StateReads q.s (least_seen q (around_bucket (usable_for q) b) best) ws last
-unfolding least_seen least_from better_seen
-around_told q ws b x y best mid last at i s j t = record {
+pub around_told : (q : Quest) (ws : List ℕ) (b x y : ℕ) (best last : Option ℕ) → RegisterAt q.on.s q.on.r q.on.extent → x ≡ first_stamp q.on.extent.u (b + 0)
+    → y ≡ first_stamp q.on.extent.u (b + 1) → StateReads q.on.s (least_seen q (x ∷ y ∷ []) best) ws last
+    → StateReads q.on.s (least_seen q (around_bucket (usable_for q) b) best) ws last
+unfolding least_seen
+around_told q ws b x y best last at i j t = record {
   says = λ state ok is.
       let z : b + 0 ≡ b = omega arith in
-      t.says state ok is ∙ rw (s.says state ok is, i, j, at.usable, z) refl;
+      let first : x ≡ first_stamp (usable_for q) (b + 0) = i ∙ ap (λ (u : Usable). first_stamp u (b + 0)) at.usable in
+      let after : y ≡ first_stamp (usable_for q) (b + 1) = j ∙ ap (λ (u : Usable). first_stamp u (b + 1)) at.usable in
+      t.says state ok is ∙ rw (first, after, z) refl;
 }
 
 -- ---- the bucket at a position
-pub here_below : (q : Quest) (i : ℕ) → i < ring_of (usable_at q.s q.r) → RegisterAt q.s q.r q.extent → i < ring_of q.extent.u
+pub here_below : (q : Quest) (i : ℕ) → i < ring_of (usable_at q.on.s q.on.r) → RegisterAt q.on.s q.on.r q.on.extent → i < ring_of q.on.extent.u
 here_below q i h at = rw at.usable h
 
-pub bucket_told : (q : Quest) (c : Class) (i : ℕ) (ws : List ℕ) (b : ℕ) → RegisterAt q.s q.r q.extent
-    → RegisterReads q.extent.u (λ reg. bucket_in i (pick c reg.rings)) (mid_of q.extent.start (q.extent.end - q.extent.start) ws) b
-    → StateReads q.s (bucket_seen q c i) ws b
+pub bucket_told : (q : Quest) (c : Class) (i : ℕ) (ws : List ℕ) (b : ℕ) → RegisterAt q.on.s q.on.r q.on.extent
+    → RegisterReads q.on.extent.u (λ reg. bucket_in i (pick c reg.rings)) (mid_of q.on.extent.start (q.on.extent.end - q.on.extent.start) ws) b
+    → StateReads q.on.s (bucket_seen q c i) ws b
 unfolding bucket_seen
-bucket_told q c i ws b at t = register_reads q.s q.r at.below q.extent at t
+bucket_told q c i ws b at t = register_reads q.on.s q.on.r at.below q.on.extent at t
 
 -- ---- a ring: the loop has tried i of its positions
-pub ring_below : (q : Quest) (n i : ℕ) → i < n → n ≡ ring_of q.extent.u → RegisterAt q.s q.r q.extent → i < ring_of (usable_at q.s q.r)
-ring_below q n i h e at = let m : n ≡ ring_of (usable_at q.s q.r) = e ∙ ap ring_of at.usable in omega arith
+pub ring_below : (q : Quest) (n i : ℕ) → i < n → n ≡ ring_of q.on.extent.u → RegisterAt q.on.s q.on.r q.on.extent → i < ring_of (usable_at q.on.s q.on.r)
+ring_below q n i h e at = let m : n ≡ ring_of (usable_at q.on.s q.on.r) = e ∙ ap ring_of at.usable in omega arith
 
 pub record Ringed (q : Quest) (c : Class) (ws : List ℕ) (n : ℕ) (first : Option ℕ) (i : ℕ) (best : Option ℕ) : Type 0 where
   pub within : i ≤ n
-  pub left : (state : State) → (state_form q.s).Ok state → ws ≡ (state_form q.s).enc state
-      → least_from (gives q state) (ring_stamps (usable_for q) (drop i (pick c (register_at q.r state).rings))) best
-      ≡ least_from (gives q state) (ring_stamps (usable_for q) (pick c (register_at q.r state).rings)) first
+  pub left : (state : State) → (state_form q.on.s).Ok state → ws ≡ (state_form q.on.s).enc state
+      → least_from (gives q state) (ring_stamps (usable_for q) (drop i (pick c (register_at q.on.r state).rings))) best
+      ≡ least_from (gives q state) (ring_stamps (usable_for q) (pick c (register_at q.on.r state).rings)) first
 
 module _ (q : Quest) (c : Class) (ws : List ℕ) (n : ℕ) (first : Option ℕ) where
   pub ring_start : Ringed q c ws n first 0 first
   ring_start = record { within = omega arith; left = λ state ok is. refl }
 
   -- the ring has so many positions
-  long : (state : State) → (state_form q.s).Ok state → RegisterAt q.s q.r q.extent → n ≡ ring_of q.extent.u
-      → length (pick c (register_at q.r state).rings) ≡ n
-  long state ok at e = ((register_in q.s q.r state at.below ok).rings c).long ∙ sym (e ∙ ap ring_of at.usable)
+  long : (state : State) → (state_form q.on.s).Ok state → RegisterAt q.on.s q.on.r q.on.extent → n ≡ ring_of q.on.extent.u
+      → length (pick c (register_at q.on.r state).rings) ≡ n
+  long state ok at e = ((register_in q.on.s q.on.r state at.below ok).rings c).long ∙ sym (e ∙ ap ring_of at.usable)
 
-  module _ (i : ℕ) (best : Option ℕ) (l : Ringed q c ws n first i best) (at : RegisterAt q.s q.r q.extent) (is-ring : n ≡ ring_of q.extent.u) where
-    pub ring_on : i < n → (b : ℕ) (next : Option ℕ) → StateReads q.s (bucket_seen q c i) ws b
-        → StateReads q.s (least_seen q (around_bucket (usable_for q) b) best) ws next → Ringed q c ws n first (i + 1) next
+  module _ (i : ℕ) (best : Option ℕ) (l : Ringed q c ws n first i best) (at : RegisterAt q.on.s q.on.r q.on.extent) (is-ring : n ≡ ring_of q.on.extent.u) where
+    pub ring_on : i < n → (b : ℕ) (next : Option ℕ) → StateReads q.on.s (bucket_seen q c i) ws b
+        → StateReads q.on.s (least_seen q (around_bucket (usable_for q) b) best) ws next → Ringed q c ws n first (i + 1) next
     unfolding ring_stamps least_from least_seen bucket_seen
     ring_on h b next s t = record {
       within = omega arith;
       left = λ state ok is.
-          let ring = pick c (register_at q.r state).rings in
+          let ring = pick c (register_at q.on.r state).rings in
           let m = long state ok at is-ring in
           let e = rw (drop-cons ring i empty (omega arith)) at (l.left state ok is) in
           rw (add-one, t.says state ok is, s.says state ok is) e;
     }
 
-    pub ring_end : n ≤ i → StateReads q.s (ring_seen q c first) ws best
+    pub ring_end : n ≤ i → StateReads q.on.s (ring_seen q c first) ws best
     unfolding ring_seen ring_stamps least_from
     ring_end h = record {
       says = λ state ok is.
-          let ring = pick c (register_at q.r state).rings in
+          let ring = pick c (register_at q.on.r state).rings in
           let m = long state ok at is-ring in
           rw (drop_of_length-le ring {i = i} (omega arith)) at (l.left state ok is);
     }

@@ -1,5 +1,5 @@
 -- The model's rules of a sought stamp, as the functions of this crate name them.
-use Rattle.std.specs.Prelude.{ℕ, ◌+◌, Bool, cond, List, [], ◌∷◌}
+use Rattle.std.specs.Prelude.{ℕ, ◌+◌, Bool, List, [], ◌∷◌, Option as Found, None, Some}
 use Rattle.std.proofs.Math.Option.{Option, none, some}
 use Rattle.model.specs.declared.Class.{Class}
 use Rattle.model.specs.declared.Settings.{Settings}
@@ -13,34 +13,33 @@ use Rattle.model.specs.Reason.{batch_verdict}
 use Rattle.model.specs.Stamp.{with_stamp, first_stamp, edge_stamps, ring_stamps, better, least_from, stamp_for}
 use Rattle.model.specs.Words.{State}
 use Rattle.model.specs.Calls.{register_at}
-use Rattle.numbers.specs.RegisterAt.{RegisterAt}
 use Rattle.ring.specs.Ring.{bucket_in}
 use Rattle.register.specs.Rules.{asked_by}
 use Rattle.register.specs.Seen.{seen_floor}
 use Rattle.taking.specs.Words.{RunWords}
 use Rattle.taking.specs.Reasons.{SeenAt, reason_seen}
 use Rattle.seeking.specs.declared.asking.Quest.{Quest}
-use Rattle.seeking.specs.declared.tries.Best.{Best}
 
-abbrev pub best_of : Best → Option ℕ
-best_of b = cond b.found (some b.stamp) none
+-- the model's option of the program's
+abbrev pub best_of : Found ℕ → Option ℕ
+best_of None = none
+best_of (Some x) = some x
 
 -- ---- what is asked about
 abbrev pub usable_for : Quest → Usable
-usable_for q = usable_at q.s q.r
+usable_for q = usable_at q.on.s q.on.r
 
--- the words are those that its settings need, its register lies where it says, and what was seen is what a sweep may do
+-- the words are those that its settings need, and what was seen is what a sweep may do
 pub record Placed (q : Quest) (ws : List ℕ) : Type 0 where
-  pub run : RunWords q.s ws
-  pub at : RegisterAt q.s q.r q.extent
-  pub seen : SeenAt q.s q.r q.seen
+  pub run : RunWords q.on.s ws
+  pub seen : SeenAt q.on.s q.on.r q.seen
 
 -- ---- the verdict at a stamp, after the sweep that was seen
 abbrev pub asked_at : Quest → ℕ → Ask
 asked_at q x = with_stamp x (asked_by q.ask)
 
 unfoldable pub verdict_seen : Quest → ℕ → State → Verdict
-verdict_seen q x t = batch_verdict (usable_for q) (asked_at q x) (reason_seen q.s q.r q.seen (asked_at q x) t)
+verdict_seen q x t = batch_verdict (usable_for q) (asked_at q x) (reason_seen q.on.s q.on.r q.seen (asked_at q x) t)
 
 abbrev pub gives : Quest → State → ℕ → Bool
 gives q t x = same_verdict q.wanted (verdict_seen q x t)
@@ -59,10 +58,10 @@ abbrev pub around_bucket : Usable → ℕ → List ℕ
 around_bucket u b = first_stamp u b ∷ first_stamp u (b + 1) ∷ []
 
 unfoldable pub bucket_seen : Quest → Class → ℕ → State → ℕ
-bucket_seen q c i t = bucket_in i (pick c (register_at q.r t).rings)
+bucket_seen q c i t = bucket_in i (pick c (register_at q.on.r t).rings)
 
 unfoldable pub ring_seen : Quest → Class → Option ℕ → State → Option ℕ
-ring_seen q c best t = least_from (gives q t) (ring_stamps (usable_for q) (pick c (register_at q.r t).rings)) best
+ring_seen q c best t = least_from (gives q t) (ring_stamps (usable_for q) (pick c (register_at q.on.r t).rings)) best
 
 -- ---- the whole
 unfoldable pub sought_by : Settings → ℕ → Ask → Verdict → State → Option ℕ

@@ -14,23 +14,24 @@ pub use asking::Quest;
 use model::{Class, Settings, Verdict};
 use numbers::starts;
 use register::Ask;
-pub use tries::Best;
+use taking::OneRegister;
 
 // The smallest stamp with which a ticket would get the wanted verdict. The stamp that the ticket brings is not read.
-pub fn stamp_for(run: &[u64], s: Settings, r: usize, ask: Ask, wanted: Verdict) -> Best
+pub fn stamp_for(run: &[u64], s: Settings, r: usize, ask: Ask, wanted: Verdict) -> Option<u64>
     requires { RunWords s run.now × (r < s.registers) }
     ensures { StateReads s (sought_by s r (asked_by ask) wanted) run.now (best_of result) }
 {
-    let extent = starts::register_extent(s, r);
-    let reading = ask.now;
-    let seen = taking::see(run, s, r, extent, reading);
+    let on = OneRegister {
+        s,
+        r,
+        extent: starts::register_extent(s, r),
+    };
+    let seen = taking::see(run, &on, ask.now);
     let q = Quest {
-        s: s,
-        r: r,
-        extent: extent,
-        seen: seen,
-        ask: ask,
-        wanted: wanted,
+        on,
+        seen,
+        ask,
+        wanted,
     };
     let edges = tries::of_edges(run, q);
     let window = tries::of_window(run, q, edges);

@@ -1,5 +1,6 @@
 // The stamps that are tried, each once. Between two of them the verdict does not change.
-ghost use Rattle.model.specs.Stamp.{floor_stamps, window_stamps};
+ghost use Rattle.std.specs.Prelude.{◌≡◌};
+ghost use Rattle.model.specs.Stamp.{below, floor_stamps, window_stamps};
 ghost use Rattle.register.specs.Seen.{seen_floor};
 ghost use Rattle.taking.specs.Words.{StateReads};
 ghost use Rattle.seeking.specs.Seeking.{best_of, Placed, usable_for, better_seen, least_seen, edges_seen, around_bucket, ring_seen};
@@ -7,105 +8,98 @@ ghost use Rattle.seeking.specs.Seeking.{best_of, Placed, usable_for, better_seen
 use crate::asking;
 use crate::asking::Quest;
 use model::{Bucket, Class};
-use numbers::{capped, codes, spans};
+use numbers::{codes, spans};
 
-// The least stamp so far that gives the wanted verdict, if one was found.
-#[derive(Clone, Copy)]
-pub struct Best {
-    pub found: bool,
-    pub stamp: u64,
+// A stamp is less than the least so far, if one was found.
+fn is_below(stamp: u64, best: Option<u64>) -> bool
+    ensures { result ≡ below stamp (best_of best) }
+{
+    best.is_none_or(|least| stamp < least)
 }
 
-// One more stamp: it is asked about where it is less than the least so far.
-fn better(run: &[u64], q: Quest, stamp: u64, best: Best) -> Best
+// One more stamp: it is asked about where it is less than the least so far that gives the wanted verdict.
+fn better(run: &[u64], q: Quest, stamp: u64, best: Option<u64>) -> Option<u64>
     requires { Placed q run.now }
-    ensures { StateReads q.s (better_seen q stamp (best_of best)) run.now (best_of result) }
+    ensures { StateReads q.on.s (better_seen q stamp (best_of best)) run.now (best_of result) }
 {
-    if best.found & (best.stamp <= stamp) {
+    if !is_below(stamp, best) {
         return best;
     }
-    let verdict = asking::verdict_at(run, q, stamp);
-    let wanted = q.wanted;
-    if codes::same_verdict(wanted, verdict) {
-        return Best {
-            found: true,
-            stamp: stamp,
-        };
+    if codes::same_verdict(q.wanted, asking::verdict_at(run, q, stamp)) {
+        return Some(stamp);
+    }
+    best
+}
+
+// Each stamp of a list.
+fn least_of(run: &[u64], q: Quest, stamps: &[u64], first: Option<u64>) -> Option<u64>
+    requires { Placed q run.now }
+    ensures { StateReads q.on.s (least_seen q stamps.now (best_of first)) run.now (best_of result) }
+{
+    let mut best = first;
+    for stamp in stamps {
+        best = better(run, q, *stamp, best);
     }
     best
 }
 
 // The first stamp above the floor, if there is one.
-fn of_floor(run: &[u64], q: Quest, best: Best) -> Best
+fn of_floor(run: &[u64], q: Quest, best: Option<u64>) -> Option<u64>
     requires { Placed q run.now }
-    ensures { StateReads q.s (least_seen q (floor_stamps (seen_floor q.seen)) (best_of best)) run.now (best_of result) }
+    ensures { StateReads q.on.s (least_seen q (floor_stamps (seen_floor q.seen)) (best_of best)) run.now (best_of result) }
 {
-    if !q.seen.present {
-        return best;
+    match q.seen.floor {
+        Some(floor) => better(run, q, floor.saturating_add(1), best),
+        None => best,
     }
-    better(run, q, capped::capped_add(q.seen.floor, 1), best)
 }
 
 // 0, the first of the window, the first past its front, and the first above the floor.
-pub(crate) fn of_edges(run: &[u64], q: Quest) -> Best
+pub(crate) fn of_edges(run: &[u64], q: Quest) -> Option<u64>
     requires { Placed q run.now }
-    ensures { StateReads q.s (edges_seen q) run.now (best_of result) }
+    ensures { StateReads q.on.s (edges_seen q) run.now (best_of result) }
 {
-    let ask = q.ask;
-    let who = ask.who;
-    let reading = ask.now;
-    let window = spans::window_for(q.extent.u, who);
-    let none = Best {
-        found: false,
-        stamp: 0,
-    };
-    let zero = better(run, q, 0, none);
-    let first = better(run, q, capped::capped_sub(reading.0, window.behind), zero);
-    let front = capped::capped_add(reading.0, window.ahead);
-    let past = better(run, q, capped::capped_add(front, 1), first);
-    of_floor(run, q, past)
+    let ms = q.ask.now.0;
+    let window = spans::window_for(q.on.extent.u, q.ask.who);
+    let start = ms.saturating_sub(window.behind);
+    let past = ms.saturating_add(window.ahead).saturating_add(1);
+    let edges = least_of(run, q, &[0, start, past], None);
+    of_floor(run, q, edges)
 }
 
 // The first stamp of each bucket that a window at the reading can have.
-pub(crate) fn of_window(run: &[u64], q: Quest, first: Best) -> Best
+pub(crate) fn of_window(run: &[u64], q: Quest, first: Option<u64>) -> Option<u64>
     requires { Placed q run.now }
-    ensures { StateReads q.s (least_seen q (window_stamps (usable_for q) q.ask.now.0) (best_of first)) run.now (best_of result) }
+    ensures { StateReads q.on.s (least_seen q (window_stamps (usable_for q) q.ask.now.0) (best_of first)) run.now (best_of result) }
 {
-    let u = q.extent.u;
-    let reading = q.ask.now;
-    let through = spans::through_of(u, reading);
-    let ring = spans::ring_of(u);
+    let u = q.on.extent.u;
+    let through = spans::through_of(u, q.ask.now);
     let mut best = first;
-    let mut k = 0;
-    while k < ring {
+    for k in 0..spans::ring_of(u) {
         best = better(run, q, spans::first_stamp(u, through, k), best);
-        k += 1;
     }
     best
 }
 
 // The first stamp of a bucket, and of the one after it.
-fn of_bucket(run: &[u64], q: Quest, bucket: Bucket, best: Best) -> Best
+fn of_bucket(run: &[u64], q: Quest, bucket: Bucket, best: Option<u64>) -> Option<u64>
     requires { Placed q run.now }
-    ensures { StateReads q.s (least_seen q (around_bucket (usable_for q) bucket.0) (best_of best)) run.now (best_of result) }
+    ensures { StateReads q.on.s (least_seen q (around_bucket (usable_for q) bucket.0) (best_of best)) run.now (best_of result) }
 {
-    let u = q.extent.u;
-    let first = better(run, q, spans::first_stamp(u, bucket, 0), best);
-    better(run, q, spans::first_stamp(u, bucket, 1), first)
+    let u = q.on.extent.u;
+    let first = spans::first_stamp(u, bucket, 0);
+    let after = spans::first_stamp(u, bucket, 1);
+    least_of(run, q, &[first, after], best)
 }
 
 // Those of every position of a class's ring, whether it holds anything or not.
-pub(crate) fn of_ring(run: &[u64], q: Quest, class: Class, first: Best) -> Best
+pub(crate) fn of_ring(run: &[u64], q: Quest, class: Class, first: Option<u64>) -> Option<u64>
     requires { Placed q run.now }
-    ensures { StateReads q.s (ring_seen q class (best_of first)) run.now (best_of result) }
+    ensures { StateReads q.on.s (ring_seen q class (best_of first)) run.now (best_of result) }
 {
-    let ring = spans::ring_of(q.extent.u) as usize;
     let mut best = first;
-    let mut i = 0;
-    while i < ring {
-        let bucket = asking::bucket_at(run, q, class, i);
-        best = of_bucket(run, q, bucket, best);
-        i += 1;
+    for i in 0..spans::ring_of(q.on.extent.u) as usize {
+        best = of_bucket(run, q, asking::bucket_at(run, q, class, i), best);
     }
     best
 }

@@ -2,12 +2,18 @@
 use Prim.Native.Nat.{ℕ, ◌*◌, ◌≤◌}
 use native.Mathlib.Omega.{arith}
 use mathlib.Core.Path.{◌≡◌, refl, sym, ◌∙◌, ap}
-use mathlib.Core.Bool.{Bool, true}
+use mathlib.Core.Bool.{Bool, true, false, cond}
 use mathlib.Core.List.{List}
 use mathlib.Core.Option.{none, some}
 use lib.ListN.{length}
-use Rattle.model.specs.declared.Answer.{Answer}
-use Rattle.model.specs.declared.Answer.TheVariants.{Refused}
+use Rattle.std.proofs.Common.{Result, Ok, Err, Some, None}
+use Rattle.std.proofs.Common.{Option as Optional}
+use Rattle.std.specs.Result.{IsErrAnd}
+use Rattle.model.specs.Answer.{Answer, refusal_number}
+use Rattle.model.specs.declared.Refusal.{Refusal}
+use Rattle.model.specs.declared.Refusal.TheVariants.{CutShort}
+use Rattle.model.specs.Listed.{listed}
+use Rattle.model.proofs.Refused.{listed_ok}
 use Rattle.model.specs.declared.Settings.{Settings}
 use Rattle.model.specs.Settings.{settings_of}
 use Rattle.model.specs.Codes.{flag_fits, flag_of}
@@ -16,16 +22,16 @@ use Rattle.model.specs.Words.{State}
 use Rattle.model.specs.Dump.{words_of, read_dump}
 use Rattle.model.specs.Calls.{Deed, Restore, Resume, On, restore_refusals, is_cut, deed_refusals, deed_fits, restored, resumed, after_restored}
 use Rattle.model.specs.Calls.{done_on, refused, first_met, register_at, held_in}
-use Rattle.dump.specs.declared.walk.Lengths.{Lengths}
-use Rattle.dump.specs.declared.walk.Lengths.TheVariants.{Cut, Read}
+use Rattle.std.specs.Bool.{then_some}
+use Rattle.std.specs.Option.{ok_or}
 use Rattle.dump.specs.Walk.{dump_at, dump_end, lengths_of, Whole}
 use Rattle.dump.proofs.Walks.{cut, whole}
 use Rattle.restoring.specs.Rules.{proven_to, restored_whole, resumed_whole}
 use Rattle.taking.specs.Words.{StateTurns}
-use Rattle.vet.specs.declared.Entry.{Entry}
-use Rattle.strikes.specs.Calls.{Told, restore_answer}
+use Rattle.strikes.specs.declared.Restored.{Restored}
+use Rattle.strikes.specs.Calls.{Told, heard, restore_answer, restored_heard}
 use Rattle.strikes.specs.Entries.{ByRegister}
-use Rattle.strikes.proofs.Through.{refused_reply}
+use Rattle.strikes.proofs.Through.{told_exit}
 use Rattle.strikes.proofs.Admitting.{first_own}
 use Rattle.strikes.proofs.OnWhole.{run_of, put_run, refused_now, told_whole}
 
@@ -34,25 +40,40 @@ seven : (bs : List ℕ) → read_dump bs ≡ none → first_own (restore_refusal
 unfolding first_own first_met is_cut
 seven bs e = rw e
 
-module _ {st ws : List ℕ} {codes : Bool} {r : ℕ} {e : Entry} (by : ByRegister st ws codes r e) (z : e.refusal ≡ 0)
-    (bs : List ℕ) {l : Lengths} (read : l ≡ lengths_of (read_dump bs)) (short : l ≡ Cut) where
-  cut_short : (deed : Deed) → codes ≡ deed_fits deed → ((reg : Register) → deed_refusals reg deed ≡ restore_refusals bs) → Told st ws (On r deed) (Refused 7) ws
-  cut_short deed same own =
+-- the lengths that were read, and that there are none
+pub length_read : {B : Type 0} {x : B} (l : Optional B) → ◌≡◌ {A = Result B Refusal} (Ok x) (ok_or l CutShort) → l ≡ Some x
+length_read None h = absurd (cc)
+length_read (Some y) h = cc
+
+no_length : {B : Type 0} (l : Optional B) {e : Refusal} → ◌≡◌ {A = Result B Refusal} (Err e) (ok_or l CutShort) → (l ≡ None) × (e ≡ CutShort)
+no_length None h = (refl, cc)
+no_length (Some y) h = absurd (cc)
+
+module _ {A : Type 0} (f : A → Answer) {st ws : List ℕ} {r n : ℕ} (by : ByRegister st ws r n) (e : Refusal) (got : Result A Refusal) (out : IsErrAnd got (λ y. y ≡ e))
+    (bs : List ℕ) {l : Optional ℕ} (read : l ≡ lengths_of (read_dump bs)) (short : ◌≡◌ {A = Result ℕ Refusal} (Err e) (ok_or l CutShort)) where
+  cut_short : (deed : Deed) → deed_fits deed ≡ true → ((reg : Register) → deed_refusals reg deed ≡ restore_refusals bs) → Told st ws (On r deed) (heard f got) ws
+  cut_short deed fits own =
+      let p = no_length l short in
       let is : refused st ws (On r deed) ≡ 7 =
-      refused_now by z deed same ∙ ap first_own (own (register_at r (held_in (settings_of st) ws))) ∙ seven bs (cut bs (sym short ∙ read)) in
-      let q = refused_reply st ws (On r deed) 7 is (λ h. omega arith) in
-      record { answer = q.0; words = q.1 }
+      refused_now by deed fits ∙ ap first_own (own (register_at r (held_in (settings_of st) ws))) ∙ seven bs (cut bs (sym p.0 ∙ read)) in
+      told_exit f st ws (On r deed) e got out (is ∙ sym (ap refusal_number p.1))
 
-  pub restore_cut : codes ≡ true → Told st ws (On r (Restore bs)) (Refused 7) ws
+  pub restore_cut : Told st ws (On r (Restore bs)) (heard f got) ws
   unfolding deed_fits deed_refusals
-  restore_cut same = cut_short (Restore bs) same (λ reg. refl)
+  restore_cut = cut_short (Restore bs) refl (λ reg. refl)
 
-  pub resume_cut : {flag floor : ℕ} → codes ≡ flag_fits flag → Told st ws (On r (Resume bs flag floor)) (Refused 7) ws
+  pub resume_cut : {b : Bool} {flag floor : ℕ} → ◌≡◌ {A = Result Bool Refusal} (Ok b) (listed (flag_fits flag) (flag_of flag))
+      → Told st ws (On r (Resume bs flag floor)) (heard f got) ws
   unfolding deed_fits deed_refusals
-  resume_cut same = cut_short (Resume bs _ _) same (λ reg. refl)
+  resume_cut {flag = flag} told = cut_short (Resume bs _ _) (listed_ok (flag_fits flag) told).0 (λ reg. refl)
+
+-- ---- a proven floor, as the flag tells it
+proven_is : (told : Bool) (floor : ℕ) → proven_to (then_some told floor) ≡ cond told (some floor) none
+proven_is true floor = refl
+proven_is false floor = refl
 
 -- ---- one that is whole
-module _ (bs : List ℕ) {l : Lengths} {long : ℕ} (read : l ≡ lengths_of (read_dump bs)) (known : l ≡ Read long) where
+module _ (bs : List ℕ) {l : Optional ℕ} {long : ℕ} (read : l ≡ lengths_of (read_dump bs)) (known : l ≡ Some long) where
   dump_there : Whole bs long
   dump_there = whole bs long (sym known ∙ read)
 
@@ -69,23 +90,26 @@ module _ (bs : List ℕ) {l : Lengths} {long : ℕ} (read : l ≡ lengths_of (re
   unfolding first_own first_met is_cut
   not_cut deed own r t = ap first_own (own (register_at r t)) ∙ rw dump_there.reads
 
-  module _ {st ws : List ℕ} {codes : Bool} {r : ℕ} {e : Entry} (by : ByRegister st ws codes r e) (z : e.refusal ≡ 0)
-      {s : Settings} (own : s ≡ settings_of st) {last : List ℕ} {b : Bool} {a : Answer} (told : a ≡ restore_answer (8 * long) b) where
-    pub was_restored : codes ≡ true
-        → StateTurns s (λ t. (restored s r t (some (dump_at (words_of bs)))).state) (restored_whole s r (dump_at (words_of bs))) (run_of e ws) last b
-        → Told st ws (On r (Restore bs)) a (put_run e ws last)
+  module _ {st ws : List ℕ} {r n : ℕ} (by : ByRegister st ws r n) {s : Settings} (own : s ≡ settings_of st) {last : List ℕ} {b : Bool}
+      (a : Restored) (told : restored_heard a ≡ restore_answer (8 * long) b) where
+    pub was_restored : StateTurns s (λ t. (restored s r t (some (dump_at (words_of bs)))).state) (restored_whole s r (dump_at (words_of bs))) (run_of n ws) last b
+        → Told st ws (On r (Restore bs)) (restored_heard a) (put_run n ws last)
     unfolding deed_fits deed_refusals done_on restored after_restored
-    was_restored same turn =
+    was_restored turn =
         let w = dump_there in
-        rw told (told_whole by z (Restore bs) same own (not_cut (Restore bs) (λ reg. refl) r) (restore_answer (8 * long))
+        rw told (told_whole by (Restore bs) refl own (not_cut (Restore bs) (λ reg. refl) r) (restore_answer (8 * long))
         (λ t. rw (w.reads, w.long)) (λ t. rw w.reads) turn)
 
-    pub was_resumed : {flag floor : ℕ} → codes ≡ flag_fits flag
-        → StateTurns s (λ t. (resumed s r t (proven_to (flag_of flag) floor) (some (dump_at (words_of bs)))).state)
-        (resumed_whole s r (dump_at (words_of bs)) (proven_to (flag_of flag) floor)) (run_of e ws) last b
-        → Told st ws (On r (Resume bs flag floor)) a (put_run e ws last)
+    pub was_resumed : {p : Bool} {flag floor : ℕ} {proven : Optional ℕ} → ◌≡◌ {A = Result Bool Refusal} (Ok p) (listed (flag_fits flag) (flag_of flag))
+        → proven ≡ then_some p floor
+        → StateTurns s (λ t. (resumed s r t (proven_to proven) (some (dump_at (words_of bs)))).state)
+        (resumed_whole s r (dump_at (words_of bs)) (proven_to proven)) (run_of n ws) last b
+        → Told st ws (On r (Resume bs flag floor)) (restored_heard a) (put_run n ws last)
     unfolding deed_fits deed_refusals done_on resumed after_restored
-    was_resumed {flag} {floor} same turn =
+    was_resumed {p} {flag} {floor} {proven} flagged is turn =
         let w = dump_there in
-        rw told (told_whole by z (Resume bs flag floor) same own (not_cut (Resume bs flag floor) (λ reg. refl) r) (restore_answer (8 * long))
-        (λ t. rw (w.reads, w.long)) (λ t. rw w.reads) turn)
+        let q = listed_ok (flag_fits flag) flagged in
+        let o : proven_to proven ≡ cond (flag_of flag) (some floor) none =
+        ap proven_to is ∙ proven_is p floor ∙ ap (λ (b : Bool). cond b (some floor) none) q.1 in
+        rw told (told_whole by (Resume bs flag floor) q.0 own (not_cut (Resume bs flag floor) (λ reg. refl) r) (restore_answer (8 * long))
+        (λ t. rw (w.reads, w.long, o)) (λ t. rw (w.reads, o)) turn)

@@ -6,8 +6,12 @@ use mathlib.Core.Bool.{Bool, true}
 use mathlib.Core.List.{List, [], ◌++◌, append-nil}
 use lib.ListN.{length, take, drop, drop_of_length-le}
 use lib.Seq.{take_all, length-take-le}
-use Rattle.model.specs.declared.Answer.{Answer}
-use Rattle.model.specs.declared.Answer.TheVariants.{Refused}
+use Rattle.std.proofs.Common.{Result, Err}
+use Rattle.std.specs.Result.{IsErrAnd}
+use Rattle.model.specs.Answer.{Answer, refusal_number}
+use Rattle.model.specs.declared.Refusal.{Refusal}
+use Rattle.model.specs.Listed.{listed}
+use Rattle.model.proofs.Refused.{refusal_there, listed_err}
 use Rattle.model.specs.declared.Settings.{Settings}
 use Rattle.runs.specs.Turns.{Turns}
 use Rattle.runs.proofs.Parts.{Part}
@@ -18,13 +22,12 @@ use Rattle.model.specs.Calls.{Deed, Call, On, deed_refusals, deed_fits, done_on,
 use Rattle.model.proofs.Words.{state_exact, state_wide}
 use Rattle.model.proofs.Parts.{front_part, front_of, with_front}
 use Rattle.taking.specs.Words.{RunWords, StateReads, StateTurns}
-use Rattle.vet.specs.declared.Entry.{Entry}
-use Rattle.vet.specs.Entries.{EntersWithin}
-use Rattle.strikes.specs.Admitted.{vets}
-use Rattle.strikes.specs.Calls.{Told}
-use Rattle.strikes.specs.Entries.{ByBook, ByRegister}
-use Rattle.strikes.proofs.Through.{Entered, lent, past_words, lent_part, refused_reply, through_part, read_part}
-use Rattle.strikes.proofs.Admitting.{first_own, vets_pass, admits_pass, refused_early, refused_own, OnBook, book_early, book_never}
+use Rattle.vet.specs.Vetted.{vetted}
+use Rattle.vet.specs.Entries.{Refuses, ReadyWithin}
+use Rattle.strikes.specs.Calls.{Told, heard}
+use Rattle.strikes.specs.Entries.{ByRegister}
+use Rattle.strikes.proofs.Through.{Entered, lent, past_words, lent_part, through_part, read_part, told_exit}
+use Rattle.strikes.proofs.Admitting.{first_own, vets_pass, admits_pass, refused_own, OnBook, book_early, book_never, unlisted}
 
 -- all of it is a part of itself
 whole_part : (s : Settings) → Part (state_form s) (state_form s) 0 (λ t. t) (λ t u. u)
@@ -41,11 +44,11 @@ whole_part s = record {
 }
 
 -- the needed words, and the words with others in their place
-abbrev pub run_of : Entry → List ℕ → List ℕ
-run_of e ws = take (e.need - 0) ws
+abbrev pub run_of : ℕ → List ℕ → List ℕ
+run_of n ws = take (n - 0) ws
 
-abbrev pub put_run : Entry → List ℕ → List ℕ → List ℕ
-put_run e ws last = last ++ drop (e.need - 0) ws
+abbrev pub put_run : ℕ → List ℕ → List ℕ → List ℕ
+put_run n ws last = last ++ drop (n - 0) ws
 
 -- the needed words are those of a well-formed state
 run_lies : (s : Settings) (ws : List ℕ) (need : ℕ) → need ≡ words_needed s → Entered s ws → RunWords s (take (need - 0) ws)
@@ -61,111 +64,103 @@ run_lies s ws need e n =
     record { fit = n.fit; long = long; least = omega (arith, long); is = is }
 
 -- ---- a call that nothing refuses, carried by what a function does to all needed words
-module _ {st ws : List ℕ} {v : ℕ} {e : Entry} (n : EntersWithin st ws v e) (z : e.refusal ≡ 0) (may : Entered (settings_of st) ws) where
+module _ {st ws : List ℕ} {v n : ℕ} (enters : ReadyWithin st ws v n) (may : Entered (settings_of st) ws) where
   module _ {s : Settings} (read : s ≡ settings_of st) where
-    lies_read : RunWords s (run_of e ws)
-    lies_read = rw read (run_lies (settings_of st) ws e.need (n.ready z).need may)
+    lies_read : RunWords s (run_of n ws)
+    lies_read = rw read (run_lies (settings_of st) ws n enters.ready.need may)
 
     carried : (call : Call) → refused st ws call ≡ 0 → {R : Type 0} {f : State → State} {out : State → R} {last : List ℕ} {x : R} (answer : R → Answer)
         → ((t : State) → (step s call t).answer ≡ answer (out t)) → ((t : State) → (step s call t).state ≡ f t)
-        → StateTurns s f out (run_of e ws) last x → Told st ws call (answer x) (put_run e ws last)
+        → StateTurns s f out (run_of n ws) last x → Told st ws call (answer x) (put_run n ws last)
     carried call none {f} {out} {last} {x} answer says leaves turn =
         let own = settings_of st in
         let w = state_wide own may.fit in
-        let d = (n.ready z).need in
-        let t = subst (λ (y : Settings). StateTurns y f out (run_of e ws) last x) read turn in
+        let d = enters.ready.need in
+        let t = subst (λ (y : Settings). StateTurns y f out (run_of n ws) last x) read turn in
         let a = subst (λ (y : Settings). (step y call (held_in own ws)).answer ≡ answer (out (held_in own ws))) read (says (held_in own ws)) in
         let b = subst (λ (y : Settings). (step y call (held_in own ws)).state ≡ f (held_in own ws)) read (leaves (held_in own ws)) in
-        let q = through_part st ws call none may (whole_part own) 0 e.need refl (omega arith) t answer a b in
+        let q = through_part st ws call none may (whole_part own) 0 n refl (omega arith) t answer a b in
         record { answer = q.0; words = q.1 }
 
     -- the same of one that only reads
     answered : (call : Call) → refused st ws call ≡ 0 → {R : Type 0} {out : State → R} {x : R} (answer : R → Answer)
-        → ((t : State) → (step s call t).answer ≡ answer (out t)) → StateReads s out (run_of e ws) x → answer x ≡ reply st ws call
+        → ((t : State) → (step s call t).answer ≡ answer (out t)) → StateReads s out (run_of n ws) x → answer x ≡ reply st ws call
     answered call none {out} {x} answer says reads =
         let own = settings_of st in
         let w = state_wide own may.fit in
-        let d = (n.ready z).need in
-        let t = subst (λ (y : Settings). StateReads y out (run_of e ws) x) read reads in
+        let d = enters.ready.need in
+        let t = subst (λ (y : Settings). StateReads y out (run_of n ws) x) read reads in
         let a = subst (λ (y : Settings). (step y call (held_in own ws)).answer ≡ answer (out (held_in own ws))) read (says (held_in own ws)) in
-        read_part st ws call none (λ (y : State). y) may (whole_part own) 0 e.need refl (omega arith) t answer a
+        read_part st ws call none (λ (y : State). y) may (whole_part own) 0 n refl (omega arith) t answer a
 
 -- ---- on a register
-module _ {st ws : List ℕ} {codes : Bool} {r : ℕ} {e : Entry} (by : ByRegister st ws codes r e) where
-  pub run_refused : (e.refusal ≡ 0 → ⊥) → {deed : Deed} → codes ≡ deed_fits deed → Told st ws (On r deed) (Refused e.refusal) ws
-  run_refused h {deed} same =
-      let q = refused_reply st ws (On r deed) _ (refused_early st ws codes r deed same _ by.enters.refusal h) h in record { answer = q.0; words = q.1 }
+module _ {st ws : List ℕ} {r n : ℕ} (by : ByRegister st ws r n) where
+  may_run : Entered (settings_of st) ws
+  may_run = (admits_pass st ws r by.enters.ready.passed).0.may
 
-  pub read_run_refused : (e.refusal ≡ 0 → ⊥) → (deed : Deed) → codes ≡ deed_fits deed → Refused e.refusal ≡ reply st ws (On r deed)
-  read_run_refused h deed same = (run_refused h same).answer
+  module _ {s : Settings} (read : s ≡ settings_of st) where
+    pub run_there : RunWords s (run_of n ws)
+    run_there = lies_read by.enters may_run read
 
-  module _ (z : e.refusal ≡ 0) where
-    may_run : Entered (settings_of st) ws
-    may_run = (admits_pass st ws codes r (sym by.enters.refusal ∙ z)).0.may
+    pub register_there : r < s.registers
+    register_there = rw read by.there
 
-    module _ {s : Settings} (read : s ≡ settings_of st) where
-      pub run_there : RunWords s (run_of e ws)
-      run_there = lies_read by.enters z may_run read
+  module _ (deed : Deed) (fits : deed_fits deed ≡ true) where
+    pub refused_now : refused st ws (On r deed) ≡ first_own (deed_refusals (register_at r (held_in (settings_of st) ws)) deed)
+    refused_now = refused_own st ws r deed fits by.enters.ready.passed
 
-      pub register_there : r < s.registers
-      register_there = rw read (by.there z)
+    -- a deed that nothing else refuses
+    pub told_whole : {s : Settings} → s ≡ settings_of st → ((t : State) → first_own (deed_refusals (register_at r t) deed) ≡ 0)
+        → {R : Type 0} {f : State → State} {out : State → R} {last : List ℕ} {v : R} (answer : R → Answer)
+        → ((t : State) → (done_on s r deed t).answer ≡ answer (out t)) → ((t : State) → (done_on s r deed t).state ≡ f t)
+        → StateTurns s f out (run_of n ws) last v → Told st ws (On r deed) (answer v) (put_run n ws last)
+    unfolding step
+    told_whole read never answer says leaves turn =
+        carried by.enters may_run read (On r deed) (refused_now ∙ never (held_in (settings_of st) ws)) answer says leaves turn
 
-    module _ (deed : Deed) (same : codes ≡ deed_fits deed) where
-      pub refused_now : refused st ws (On r deed) ≡ first_own (deed_refusals (register_at r (held_in (settings_of st) ws)) deed)
-      refused_now = refused_own st ws codes r deed same (sym by.enters.refusal ∙ z)
-
-      -- a deed that nothing else refuses
-      pub told_whole : {s : Settings} → s ≡ settings_of st → ((t : State) → first_own (deed_refusals (register_at r t) deed) ≡ 0)
-          → {R : Type 0} {f : State → State} {out : State → R} {last : List ℕ} {v : R} (answer : R → Answer)
-          → ((t : State) → (done_on s r deed t).answer ≡ answer (out t)) → ((t : State) → (done_on s r deed t).state ≡ f t)
-          → StateTurns s f out (run_of e ws) last v → Told st ws (On r deed) (answer v) (put_run e ws last)
-      unfolding step
-      told_whole read never answer says leaves turn =
-          carried by.enters z may_run read (On r deed) (refused_now ∙ never (held_in (settings_of st) ws)) answer says leaves turn
-
-      pub told_seen : {s : Settings} → s ≡ settings_of st → ((t : State) → first_own (deed_refusals (register_at r t) deed) ≡ 0)
-          → {R : Type 0} {out : State → R} {v : R} (answer : R → Answer) → ((t : State) → (done_on s r deed t).answer ≡ answer (out t))
-          → StateReads s out (run_of e ws) v → answer v ≡ reply st ws (On r deed)
-      unfolding step
-      told_seen read never answer says reads =
-          answered by.enters z may_run read (On r deed) (refused_now ∙ never (held_in (settings_of st) ws)) answer says reads
+    pub told_seen : {s : Settings} → s ≡ settings_of st → ((t : State) → first_own (deed_refusals (register_at r t) deed) ≡ 0)
+        → {R : Type 0} {out : State → R} {v : R} (answer : R → Answer) → ((t : State) → (done_on s r deed t).answer ≡ answer (out t))
+        → StateReads s out (run_of n ws) v → answer v ≡ reply st ws (On r deed)
+    unfolding step
+    told_seen read never answer says reads =
+        answered by.enters may_run read (On r deed) (refused_now ∙ never (held_in (settings_of st) ws)) answer says reads
 
 -- ---- on the book
-module _ {st ws : List ℕ} {codes : Bool} {e : Entry} (by : ByBook st ws codes e) where
-  pub book_refused : (e.refusal ≡ 0 → ⊥) → {call : Call} → OnBook call → codes ≡ codes_fit (settings_of st) call → Told st ws call (Refused e.refusal) ws
-  book_refused h {call} on same =
-      let q = refused_reply st ws call _ (book_early st ws codes call on.of same _ by.enters.refusal h) h in record { answer = q.0; words = q.1 }
+-- refused by one of the first three refusals, or with 1 by a code that is not listed
+module _ {A : Type 0} (f : A → Answer) (st ws : List ℕ) (call : Call) (e : Refusal) (got : Result A Refusal) (out : IsErrAnd got (λ y. y ≡ e)) where
+  pub book_refused : OnBook call → codes_fit (settings_of st) call ≡ true → Refuses (vetted st ws) e → Told st ws call (heard f got) ws
+  book_refused on fits v = told_exit f st ws call e got out (book_early st ws call on.of fits (refusal_number e) v (refusal_there e))
 
-  module _ (z : e.refusal ≡ 0) where
-    passes : vets st ws codes ≡ 0
-    passes = sym by.enters.refusal ∙ z
+  pub book_unlisted : (b : Bool) {B : Type 0} (x : B) → b ≡ codes_fit (settings_of st) call → Err e ≡ listed b x → Told st ws call (heard f got) ws
+  book_unlisted b x same h =
+      let p = listed_err x b h in
+      told_exit f st ws call e got out (unlisted st ws call (sym same ∙ p.0) ∙ sym (ap refusal_number p.1))
 
-    may_book : Entered (settings_of st) ws
-    may_book = (vets_pass st ws codes passes).may
+module _ {st ws : List ℕ} {n : ℕ} (enters : ReadyWithin st ws (vetted st ws) n) where
+  may_book : Entered (settings_of st) ws
+  may_book = (vets_pass st ws enters.ready.passed).may
 
-    pub codes_there : codes ≡ true
-    codes_there = (vets_pass st ws codes passes).listed
+  pub book_there : {s : Settings} → s ≡ settings_of st → RunWords s (run_of n ws)
+  book_there read = lies_read enters may_book read
 
-    pub book_there : {s : Settings} → s ≡ settings_of st → RunWords s (run_of e ws)
-    book_there read = lies_read by.enters z may_book read
+  pub front_there : 20 ≤ length ws
+  unfolding words_needed
+  front_there = let l = may_book.long in omega arith
 
-    pub front_there : 20 ≤ length ws
-    unfolding words_needed
-    front_there = let l = may_book.long in omega arith
+  module _ {call : Call} (on : OnBook call) (fits : codes_fit (settings_of st) call ≡ true) where
+    pub told_run : {s : Settings} → s ≡ settings_of st → {R : Type 0} {f : State → State} {out : State → R} {last : List ℕ} {v : R} (answer : R → Answer)
+        → ((t : State) → (step s call t).answer ≡ answer (out t)) → ((t : State) → (step s call t).state ≡ f t)
+        → StateTurns s f out (run_of n ws) last v → Told st ws call (answer v) (put_run n ws last)
+    told_run read answer says leaves turn =
+        carried enters may_book read call (book_never st ws call on fits enters.ready.passed) answer says leaves turn
 
-    module _ {call : Call} (on : OnBook call) (same : codes ≡ codes_fit (settings_of st) call) where
-      pub told_run : {s : Settings} → s ≡ settings_of st → {R : Type 0} {f : State → State} {out : State → R} {last : List ℕ} {v : R} (answer : R → Answer)
-          → ((t : State) → (step s call t).answer ≡ answer (out t)) → ((t : State) → (step s call t).state ≡ f t)
-          → StateTurns s f out (run_of e ws) last v → Told st ws call (answer v) (put_run e ws last)
-      told_run read answer says leaves turn = carried by.enters z may_book read call (book_never st ws codes call on same passes) answer says leaves turn
-
-      -- by what a function does to the front
-      pub told_front : {R : Type 0} {f : Front → Front} {out : Front → R} {last : List ℕ} {v : R} (answer : R → Answer)
-          → ((t : State) → (step (settings_of st) call t).answer ≡ answer (out (front_of t)))
-          → ((t : State) → (step (settings_of st) call t).state ≡ with_front (f (front_of t)) t)
-          → ((s : Settings) → Turns (encode_front s) FrontOk f out (take 20 ws) last v) → Told st ws call (answer v) (last ++ drop 20 ws)
-      told_front answer says leaves turn =
-          let s = settings_of st in
-          let q = through_part st ws call (book_never st ws codes call on same passes) may_book (front_part s) 0 20 refl refl (turn s)
-          answer (says (held_in s ws)) (leaves (held_in s ws)) in
-          record { answer = q.0; words = q.1 }
+    -- by what a function does to the front
+    pub told_front : {R : Type 0} {f : Front → Front} {out : Front → R} {last : List ℕ} {v : R} (answer : R → Answer)
+        → ((t : State) → (step (settings_of st) call t).answer ≡ answer (out (front_of t)))
+        → ((t : State) → (step (settings_of st) call t).state ≡ with_front (f (front_of t)) t)
+        → ((s : Settings) → Turns (encode_front s) FrontOk f out (take 20 ws) last v) → Told st ws call (answer v) (last ++ drop 20 ws)
+    told_front answer says leaves turn =
+        let s = settings_of st in
+        let q = through_part st ws call (book_never st ws call on fits enters.ready.passed) may_book (front_part s) 0 20 refl refl (turn s)
+        answer (says (held_in s ws)) (leaves (held_in s ws)) in
+        record { answer = q.0; words = q.1 }

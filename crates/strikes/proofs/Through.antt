@@ -7,8 +7,10 @@ use mathlib.Core.List.{List, ◌++◌}
 use lib.ListN.{length, drop}
 use borrow.Author.Tests.{ne_eqb}
 use borrow.Rule.Slice.PartMut.{mid_of, put_mid}
-use Rattle.model.specs.declared.Answer.{Answer}
-use Rattle.model.specs.declared.Answer.TheVariants.{Refused}
+use Rattle.std.proofs.Common.{Result}
+use Rattle.std.specs.Result.{IsErrAnd}
+use Rattle.model.specs.Answer.{Answer, Refused, refusal_number}
+use Rattle.model.specs.declared.Refusal.{Refusal}
 use Rattle.model.specs.declared.Settings.{Settings}
 use Rattle.runs.specs.Form.{Form}
 use Rattle.runs.specs.Combine.{Both, both, free}
@@ -20,6 +22,8 @@ use Rattle.model.specs.Words.{State, state_form}
 use Rattle.model.specs.Calls.{Call, step, refused, reply, after, held_in, sound}
 use Rattle.model.proofs.Words.{state_exact}
 use Rattle.model.proofs.View.{sound_holds}
+use Rattle.model.proofs.Refused.{refusal_there, exits}
+use Rattle.strikes.specs.Calls.{Told, heard}
 
 -- the needed words, and k words past them
 abbrev pub lent_form : Settings → ℕ → Form (Both State (List ℕ))
@@ -93,3 +97,8 @@ module _ (st ws : List ℕ) (call : Call) (none : refused st ws call ≡ 0) wher
 pub refused_reply : (st ws : List ℕ) (call : Call) (n : ℕ) → refused st ws call ≡ n → (n ≡ 0 → ⊥) → (Refused n ≡ reply st ws call) × (ws ≡ after st ws call)
 unfolding reply after
 refused_reply st ws call n e h = let b = ne_eqb n 0 h in (rw (e, b), rw (e, b))
+
+module _ {A : Type 0} (f : A → Answer) (st ws : List ℕ) (call : Call) (e : Refusal) (r : Result A Refusal) (out : IsErrAnd r (λ y. y ≡ e))
+    (is : refused st ws call ≡ refusal_number e) where
+  pub told_exit : Told st ws call (heard f r) ws
+  told_exit = let q = refused_reply st ws call _ is (refusal_there e) in rw (exits r out) (record { answer = q.0; words = q.1 })

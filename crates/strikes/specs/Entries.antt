@@ -1,70 +1,58 @@
--- What a call enters with: the words that it may use are there whether it is refused or not, and are those of the rules if it is not.
-use Rattle.std.specs.Prelude.{ℕ, ◌+◌, ◌<◌, ◌≤◌, ◌≡◌, Bool, ◌&&◌, List, length}
+-- What a call enters with, or the refusal of the rules: the words that it may use are there.
+use Rattle.std.specs.Prelude.{ℕ, ◌+◌, ◌<◌, ◌≤◌, ◌≡◌, List, length, Result, MatchResult}
 use Rattle.model.specs.declared.Class.{Class}
-use Rattle.model.specs.Settings.{settings_of, no_usable}
-use Rattle.model.specs.Class.{deliverer_fits}
-use Rattle.model.specs.Codes.{flag_fits}
+use Rattle.model.specs.declared.Refusal.{Refusal}
+use Rattle.model.specs.Settings.{settings_of}
+use Rattle.model.specs.Class.{deliverer_of}
+use Rattle.model.specs.Codes.{flag_of}
 use Rattle.model.specs.Words.{class_start, class_width}
-use Rattle.model.specs.Calls.{Asking, ask_of}
+use Rattle.model.specs.Calls.{Asking, asking_fits}
+use Rattle.model.specs.Listed.{listed}
 use Rattle.model.specs.Most.{words_most}
+use Rattle.numbers.specs.declared.starts.RegisterExtent.{RegisterExtent}
 use Rattle.numbers.specs.RegisterAt.{RegisterAt}
-use Rattle.register.specs.Rules.{asked_by}
-use Rattle.vet.specs.declared.Entry.{Entry}
-use Rattle.vet.specs.Entries.{Ready, EntersWithin}
-use Rattle.strikes.specs.declared.RegisterEntry.{RegisterEntry}
-use Rattle.strikes.specs.declared.ClassEntry.{ClassEntry}
-use Rattle.strikes.specs.declared.Ticket.{Ticket}
-use Rattle.strikes.specs.Admitted.{vets, admits, opens}
+use Rattle.register.specs.declared.judging.Ask.{Ask}
+use Rattle.vet.specs.Vetted.{vetted}
+use Rattle.vet.specs.Entries.{Refuses, ReadyWithin}
+use Rattle.strikes.specs.declared.ClassExtent.{ClassExtent}
+use Rattle.strikes.specs.Admitted.{admits}
 
--- a call on the book, on a register, and an opening, into so many words
-pub record ByBook (st ws : List ℕ) (codes : Bool) (e : Entry) : Type 0 where
-  pub enters : EntersWithin st ws (vets st ws codes) e
+-- a call on a register, and the words that its settings need
+pub record ByRegister (st ws : List ℕ) (r n : ℕ) : Type 0 where
+  pub enters : ReadyWithin st ws (admits st ws r) n
+  pub there : r < (settings_of st).registers
 
-pub record ByRegister (st ws : List ℕ) (codes : Bool) (r : ℕ) (e : Entry) : Type 0 where
-  pub enters : EntersWithin st ws (admits st ws codes r) e
-  pub there : e.refusal ≡ 0 → r < (settings_of st).registers
+abbrev pub Admits : List ℕ → List ℕ → ℕ → Result ℕ Refusal → Type 0
+Admits st ws r got = MatchResult got (ByRegister st ws r) (Refuses (admits st ws r))
 
-pub record ByOpening (st limits starts : List ℕ) (n : ℕ) (e : Entry) : Type 0 where
-  pub refusal : e.refusal ≡ opens st limits starts n
-  pub ready : e.refusal ≡ 0 → Ready st e
-  pub none : (e.refusal ≡ 0 → ⊥) → e.need ≡ 0
-  pub within : e.need ≤ n
-
--- a register's part, or none where the call is refused
-pub record NoRegister (p : RegisterEntry) : Type 0 where
-  pub usable : p.u ≡ no_usable
-  pub start : p.start ≡ 0
-  pub end : p.end ≡ 0
-
-pub record AtRegister (st ws : List ℕ) (codes : Bool) (r : ℕ) (p : RegisterEntry) : Type 0 where
-  pub refusal : p.refusal ≡ admits st ws codes r
-  pub none : (p.refusal ≡ 0 → ⊥) → NoRegister p
-  pub place : p.refusal ≡ 0 → RegisterAt (settings_of st) r (record { u = p.u; start = p.start; end = p.end })
+-- a register's part
+pub record AtRegister (st ws : List ℕ) (r : ℕ) (p : RegisterExtent) : Type 0 where
+  pub passed : admits st ws r ≡ 0
+  pub place : RegisterAt (settings_of st) r p
   pub order : p.start ≤ p.end
   pub within : p.end ≤ length ws
   -- few words, whatever the settings in bounds
   pub few : p.end ≤ words_most
 
--- a class's part, or none where the call is refused
-pub record NoClass (p : ClassEntry) : Type 0 where
-  pub shares : p.shares ≡ record { places = 0; pairs = 0; feeder = 0; peer = 0 }
-  pub start : p.start ≡ 0
-  pub end : p.end ≡ 0
+abbrev pub FindsRegister : List ℕ → List ℕ → ℕ → Result RegisterExtent Refusal → Type 0
+FindsRegister st ws r got = MatchResult got (AtRegister st ws r) (Refuses (admits st ws r))
 
-pub record ClassAt (st : List ℕ) (c : Class) (p : ClassEntry) : Type 0 where
+-- a class's part
+pub record AtClass (st ws : List ℕ) (c : Class) (p : ClassExtent) : Type 0 where
+  pub passed : vetted st ws ≡ 0
   pub shares : p.shares ≡ (settings_of st).shares
   pub start : p.start ≡ class_start (settings_of st) c
   pub end : p.end ≡ p.start + class_width (settings_of st).shares
-
-pub record AtClass (st ws : List ℕ) (codes : Bool) (c : Class) (p : ClassEntry) : Type 0 where
-  pub refusal : p.refusal ≡ vets st ws codes
-  pub none : (p.refusal ≡ 0 → ⊥) → NoClass p
-  pub place : p.refusal ≡ 0 → ClassAt st c p
   pub order : p.start ≤ p.end
   pub within : p.end ≤ length ws
   pub few : p.end ≤ words_most
 
--- a ticket as the host passes it
-pub record Asks (a : Asking) (t : Ticket) : Type 0 where
-  pub listed : t.listed ≡ (flag_fits a.flag && deliverer_fits a.kind a.number)
-  pub ask : asked_by t.ask ≡ ask_of a
+abbrev pub FindsClass : List ℕ → List ℕ → Class → Result ClassExtent Refusal → Type 0
+FindsClass st ws c got = MatchResult got (AtClass st ws c) (Refuses (vetted st ws))
+
+-- a ticket as the host passes it, its codes read
+abbrev pub ask_read : Asking → Ask
+ask_read a = record { fp = a.fp; stamp = a.stamp; now = record { 0 = a.ms }; judging = flag_of a.flag; who = deliverer_of a.kind a.number }
+
+abbrev pub AsksOf : Asking → Result Ask Refusal → Type 0
+AsksOf a got = got ≡ listed (asking_fits a) (ask_read a)

@@ -9,8 +9,8 @@ use lib.ListN.{get_or}
 use native.Mathlib.Omega.{arith}
 use Rattle.runs.proofs.Cases.{no}
 use Rattle.model.specs.declared.Verdict.TheVariants.{New}
-use Rattle.model.specs.declared.Answer.{Answer}
-use Rattle.model.specs.declared.Answer.TheVariants.{Said}
+use Rattle.model.specs.Answer.{Answer}
+use Rattle.model.specs.Answer.{Said}
 use Rattle.model.specs.Codes.{went_through}
 use Rattle.model.specs.Calls.{Sort, Asks, Takes, Restores, Resumes, Plain, Kind, Opens, OnOne, Sets, Other, kind, reply, after}
 use Rattle.model.specs.View.{Given, words_after}

@@ -1,56 +1,88 @@
--- An answer as numbers, and what an entry point lets out of it.
-use Prim.Native.Nat.{ℕ, suc, ◌<◌, ◌≤◌}
-use native.Mathlib.Omega.{arith}
+-- What an entry point lets out of what a call told: the number that it returns, and its out numbers.
+use Prim.Native.Nat.{ℕ, suc}
 use mathlib.Core.Path.{◌≡◌, refl, sym, ◌∙◌, ap}
+use mathlib.Core.Bool.{Bool, true, false}
 use mathlib.Core.List.{List, [], ◌∷◌}
-use lib.ListN.{length, get_or, take, length-take, get_or-eq_default}
-use lib.Seq.{get_or-take}
-use Rattle.model.specs.declared.Answer.{Answer}
-use Rattle.model.specs.declared.Reason.{Reason}
-use Rattle.model.specs.declared.Verdict.{Verdict}
-use Rattle.model.specs.Codes.{verdict_number, reason_number, reason_class, reason_verdict, answer_number, answer_values}
-use Rattle.model.specs.Calls.{Call, reply}
-use Rattle.strikes.specs.Calls.{Told, ToldOutput}
-use Rattle.strikes_c.specs.declared.sent.Sent.{Sent}
-use Rattle.strikes_c.specs.Out.{value_out, values_out, Returned, Read, Written, values_of, sent_reason, SentAs}
+use Rattle.std.proofs.Common.{Result, Ok, Err}
+use Rattle.std.specs.Int.{from_bool}
+use Rattle.model.specs.declared.Refusal.{Refusal}
+use Rattle.model.specs.Answer.{Answer, Refused}
+use Rattle.model.specs.Codes.{answer_number, answer_values}
+use Rattle.model.specs.Calls.{Call, reply, yes_no}
+use Rattle.strikes.specs.Admitted.{told_number}
+use Rattle.strikes.specs.Calls.{Told, ToldOutput, heard, done, begun_or_already}
+use Rattle.strikes_c.specs.Out.{value_out, values_out, Returned, Read, Written}
 
--- ---- one value of those that are there
-pub none_there : (n k : ℕ) (xs : List ℕ) (old : ℕ) → n ≤ k → old ≡ get_or (take n xs) k old
-none_there n k xs old h =
-    let e : length (take n xs) ≤ k = rw length-take (omega arith) in
-    sym (get_or-eq_default (take n xs) old {n = k} e)
+-- a call that was refused leaves its out numbers as they were
+kept : (v k : ℕ) (olds : List ℕ) → olds ≡ values_out k (Refused v) olds
+unfolding value_out answer_values
+kept v k [] = refl
+kept v k (old ∷ olds) = ap (λ (l : List ℕ). old ∷ l) (kept v (suc k) olds)
 
-pub one_there : (n k : ℕ) (xs : List ℕ) (old : ℕ) → k < n → get_or xs k old ≡ get_or (take n xs) k old
-one_there n k xs old h = sym (get_or-take n xs k old h)
+returned : {v n : ℕ} → n ≡ v → n ≡ answer_number (Refused v)
+unfolding answer_number
+returned e = e
 
--- ---- one answer, by the numbers made of it
-pub as_sent : {a b : Answer} {s t : Sent} → a ≡ b → s ≡ t → SentAs b t → SentAs a s
-as_sent p q h = record { number = rw (p, q) h.number; values = rw (p, q) h.values; few = rw q h.few; rest = rw q h.rest }
+-- the number of one that has no out numbers
+done_number : (r : Result (Unit {0}) Refusal) → told_number r ≡ answer_number (heard done r)
+unfolding answer_number
+done_number (Ok x) = refl
+done_number (Err e) = refl
 
--- a rule, by its three numbers
-pub reason_sent : (x : Reason) (v : Verdict) (n c k : ℕ) (s : Sent) → n ≡ reason_number x → c ≡ reason_class x → v ≡ reason_verdict x → k ≡ verdict_number v
-    → s ≡ record { status = 0; count = 3; first = n; second = c; third = k; fourth = 0 } → s ≡ sent_reason x
-reason_sent x v n c k s number class verdict told is = is ∙ rw (number, class, told, verdict)
+module _ {st ws : List ℕ} {call : Call} where
+  -- a call that went through, by the number and the values of its answer
+  module _ {a : Answer} {n : ℕ} (number : n ≡ answer_number a) {olds news : List ℕ} (values : news ≡ values_out 0 a olds) where
+    pub read_out : a ≡ reply st ws call → Read st ws call n olds news
+    read_out told = record { number = number ∙ ap answer_number told; values = values ∙ ap (λ (x : Answer). values_out 0 x olds) told }
 
--- ---- the out numbers, by the values made of the answer
-abbrev pub outs : ℕ → List ℕ → List ℕ → List ℕ
-outs k vs [] = []
-outs k vs (old ∷ olds) = get_or vs k old ∷ outs (suc k) vs olds
+    pub told_out : {left : List ℕ} → Told st ws call a left → Returned st ws call n left olds news
+    told_out told = let r = read_out told.answer in record { number = r.number; words = told.words; values = r.values }
 
-outs_are : (k : ℕ) (a : Answer) (vs olds : List ℕ) → vs ≡ answer_values a → outs k vs olds ≡ values_out k a olds
-unfolding value_out
-outs_are k a vs [] e = refl
-outs_are k a vs (old ∷ olds) e = rw e (ap (λ (l : List ℕ). get_or (answer_values a) k old ∷ l) (outs_are (suc k) a (answer_values a) olds refl))
+    pub written_out : {left : List ℕ} → ToldOutput st ws call a left → Written st ws call n left olds news
+    written_out told = let r = read_out told.answer in record { number = r.number; output = told.output; values = r.values }
 
-module _ (st ws : List ℕ) (call : Call) (a : Answer) (s : Sent) (sent : SentAs a s) where
-  pub read_out : (olds news : List ℕ) → a ≡ reply st ws call → news ≡ outs 0 (values_of s) olds → Read st ws call s.status olds news
-  read_out olds news t e = record {
-    number = sent.number ∙ ap answer_number t;
-    values = e ∙ outs_are 0 a (values_of s) olds sent.values ∙ ap (λ (x : Answer). values_out 0 x olds) t;
-  }
+  -- the same by a case of what it returned
+  module _ {X : Type 0} (f : X → Answer) {x : X} (y : X) (e : x ≡ y) {n : ℕ} (number : n ≡ answer_number (f y)) {olds news : List ℕ}
+      (values : news ≡ values_out 0 (f y) olds) where
+    pub read_case : f x ≡ reply st ws call → Read st ws call n olds news
+    read_case told = read_out number values (sym (ap f e) ∙ told)
 
-  pub told_out : (left olds news : List ℕ) → Told st ws call a left → news ≡ outs 0 (values_of s) olds → Returned st ws call s.status left olds news
-  told_out left olds news t e = let r = read_out olds news t.answer e in record { number = r.number; words = t.words; values = r.values }
+    pub told_case : {left : List ℕ} → Told st ws call (f x) left → Returned st ws call n left olds news
+    told_case told = let r = read_case told.answer in record { number = r.number; words = told.words; values = r.values }
 
-  pub written_out : (left olds news : List ℕ) → ToldOutput st ws call a left → news ≡ outs 0 (values_of s) olds → Written st ws call s.status left olds news
-  written_out left olds news t e = let r = read_out olds news t.answer e in record { number = r.number; output = t.output; values = r.values }
+  -- one that was refused
+  module _ {v n : ℕ} (e : n ≡ v) (olds : List ℕ) where
+    pub read_refused : Refused v ≡ reply st ws call → Read st ws call n olds olds
+    read_refused told = read_out (returned e) (kept v 0 olds) told
+
+    pub told_refused : {left : List ℕ} → Told st ws call (Refused v) left → Returned st ws call n left olds olds
+    told_refused told = told_out (returned e) (kept v 0 olds) told
+
+    pub written_refused : {left : List ℕ} → ToldOutput st ws call (Refused v) left → Written st ws call n left olds olds
+    written_refused told = written_out (returned e) (kept v 0 olds) told
+
+  -- one that has no out numbers
+  pub done_out : (r : Result (Unit {0}) Refusal) {n : ℕ} {left : List ℕ} → n ≡ told_number r → Told st ws call (heard done r) left → Returned st ws call n left [] []
+  done_out r e told = told_out (e ∙ done_number r) refl told
+
+-- ---- yes and no as a number
+module _ (n old : ℕ) where
+  pub yes_number : (b : Bool) → n ≡ from_bool b → n ∷ [] ≡ values_out 0 (yes_no b) (old ∷ [])
+  unfolding value_out answer_values
+  yes_number true e = rw e refl
+  yes_number false e = rw e refl
+
+  pub begun_number : (b : Bool) → n ≡ from_bool b → n ∷ [] ≡ values_out 0 (begun_or_already b) (old ∷ [])
+  unfolding value_out answer_values
+  begun_number true e = rw e refl
+  begun_number false e = rw e refl
+
+pub yes_returns : (b : Bool) → 0 ≡ answer_number (yes_no b)
+unfolding answer_number
+yes_returns true = refl
+yes_returns false = refl
+
+pub begun_returns : (b : Bool) → 0 ≡ answer_number (begun_or_already b)
+unfolding answer_number
+begun_returns true = refl
+begun_returns false = refl

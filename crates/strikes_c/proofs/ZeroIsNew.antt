@@ -6,8 +6,8 @@ use mathlib.Core.Option.{some}
 use lib.ListN.{get_or}
 use Rattle.model.specs.declared.Verdict.{Verdict}
 use Rattle.model.specs.declared.Verdict.TheVariants.{New}
-use Rattle.model.specs.declared.Answer.{Answer}
-use Rattle.model.specs.declared.Answer.TheVariants.{Said}
+use Rattle.model.specs.Answer.{Answer}
+use Rattle.model.specs.Answer.{Said}
 use Rattle.model.specs.Codes.{verdict_number, answer_number, answer_values}
 use Rattle.model.specs.Calls.{Manner, judged, judged_batch, taken, taken_batch, Asking, Ticket, Call, On, manner_sort, act, kind, reply}
 use Rattle.model.specs.Once.{Strike, strike_of, asks_about}

@@ -1,11 +1,9 @@
 -- What an entry point lets out: the number that it returns, the out numbers, and the words.
-use Rattle.std.specs.Prelude.{ℕ, suc, ◌-◌, ◌≤◌, ◌≡◌, cond, List, [], ◌∷◌, ◌++◌, get_or, take, replicate}
-use Rattle.model.specs.declared.Answer.{Answer}
-use Rattle.model.specs.declared.Reason.{Reason}
+use Rattle.std.specs.Prelude.{ℕ, suc, ◌≡◌, cond, List, [], ◌∷◌, get_or}
+use Rattle.model.specs.Answer.{Answer}
 use Rattle.model.specs.Settings.{settings_of, words_needed}
-use Rattle.model.specs.Codes.{verdict_number, reason_number, reason_class, reason_verdict, answer_number, answer_values}
+use Rattle.model.specs.Codes.{answer_number, answer_values}
 use Rattle.model.specs.Calls.{Call, settings_words_fit, reply, after, output_after}
-use Rattle.strikes_c.specs.declared.sent.Sent.{Sent}
 
 -- an out number: the answer's value at place k, or what it held before where the answer has none there; a refusal has no values
 unfoldable pub value_out : ℕ → Answer → ℕ → ℕ
@@ -32,28 +30,6 @@ pub record Written (st ws : List ℕ) (call : Call) (n : ℕ) (left olds news : 
   pub number : n ≡ answer_number (reply st ws call)
   pub output : left ≡ output_after st ws call
   pub values : news ≡ values_out 0 (reply st ws call) olds
-
--- ---- an answer as numbers
-abbrev pub values_of : Sent → List ℕ
-values_of s = take s.count (s.first ∷ s.second ∷ s.third ∷ s.fourth ∷ [])
-
--- a rule, the class that it names and take's verdict by it
-abbrev pub sent_reason : Reason → Sent
-sent_reason x = record {
-  status = 0;
-  count = 3;
-  first = reason_number x;
-  second = reason_class x;
-  third = verdict_number (reason_verdict x);
-  fourth = 0;
-}
-
-pub record SentAs (a : Answer) (s : Sent) : Type 0 where
-  pub number : s.status ≡ answer_number a
-  pub values : values_of s ≡ answer_values a
-  -- at most four, and those past the count are 0
-  pub few : s.count ≤ 4
-  pub rest : s.first ∷ s.second ∷ s.third ∷ s.fourth ∷ [] ≡ values_of s ++ replicate (4 - s.count) 0
 
 -- ---- the words that settings need: 1 where they are unfit, and then the out number keeps what it held
 abbrev pub needed_status : List ℕ → ℕ

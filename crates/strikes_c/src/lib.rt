@@ -2,15 +2,25 @@
 // number, and a refusal alters no word, no byte and no out number. Nothing needs to be vetted before a call. include/strikes.h declares them.
 #![tactic(auto)]
 
-mod sent;
-
 ghost use Rattle.std.specs.Prelude.{◌≡◌, [], ◌∷◌};
 ghost use Rattle.model.specs.Calls.{judged, judged_batch, taken, taken_batch, On, Open, Expire, Close, SetLimits, HeldBy, ClassTotals, Begin, Sweep, ContainsHash, DumpTo, Restore, Resume, Floor, Pending, SweptBucket, ViewRegister, ViewDeliverer};
 ghost use Rattle.strikes.specs.Calls.{asking, explaining, seeking};
+ghost use Rattle.strikes.specs.Admitted.{told_number};
 ghost use Rattle.strikes_c.specs.Out.{Returned, Read, Written, needed_status, needed_out};
 
-use numbers::bounds;
-use sent::send;
+use model::Refusal;
+use numbers::{bounds, codes};
+use strikes::Restored;
+
+// What a call returns that has no out numbers: 0, or the refusal number.
+fn status(told: Result<(), Refusal>) -> u64
+    ensures { result ≡ told_number told }
+{
+    match told {
+        Ok(()) => 0,
+        Err(refusal) => u64::from(refusal),
+    }
+}
 
 // The words that the settings need, or 1 where they are unfit.
 #[unsafe(no_mangle)]
@@ -39,8 +49,7 @@ pub extern "C" fn strikes_open(
 ) -> u64
     ensures { Returned settings.now words.old (Open limits.now starts.now) result words.new [] [] }
 {
-    let sent = send(strikes::open(settings, limits, starts, words));
-    sent.status
+    status(strikes::open(settings, limits, starts, words))
 }
 
 // What a ticket is. Nothing of it is remembered.
@@ -59,11 +68,15 @@ pub extern "C" fn strikes_judge(
 ) -> u64
     ensures { Returned settings.now words.old (asking judged register fp stamp reading flag kind number) result words.new (verdict.old ∷ []) (verdict.new ∷ []) }
 {
-    let sent = send(strikes::judge(
+    match strikes::judge(
         settings, words, register, fp, stamp, reading, flag, kind, number,
-    ));
-    *verdict = sent.first_or(*verdict);
-    sent.status
+    ) {
+        Ok(found) => {
+            *verdict = u64::from(found);
+            0
+        }
+        Err(refusal) => u64::from(refusal),
+    }
 }
 
 // As strikes_judge, for a batch: a Late ticket past the window's front is Ahead.
@@ -82,11 +95,15 @@ pub extern "C" fn strikes_judge_batch(
 ) -> u64
     ensures { Returned settings.now words.old (asking judged_batch register fp stamp reading flag kind number) result words.new (verdict.old ∷ []) (verdict.new ∷ []) }
 {
-    let sent = send(strikes::judge_batch(
+    match strikes::judge_batch(
         settings, words, register, fp, stamp, reading, flag, kind, number,
-    ));
-    *verdict = sent.first_or(*verdict);
-    sent.status
+    ) {
+        Ok(found) => {
+            *verdict = u64::from(found);
+            0
+        }
+        Err(refusal) => u64::from(refusal),
+    }
 }
 
 // As strikes_judge, and a new ticket is remembered.
@@ -105,11 +122,15 @@ pub extern "C" fn strikes_take(
 ) -> u64
     ensures { Returned settings.now words.old (asking taken register fp stamp reading flag kind number) result words.new (verdict.old ∷ []) (verdict.new ∷ []) }
 {
-    let sent = send(strikes::take(
+    match strikes::take(
         settings, words, register, fp, stamp, reading, flag, kind, number,
-    ));
-    *verdict = sent.first_or(*verdict);
-    sent.status
+    ) {
+        Ok(found) => {
+            *verdict = u64::from(found);
+            0
+        }
+        Err(refusal) => u64::from(refusal),
+    }
 }
 
 // As strikes_take, for a batch: judged as strikes_judge_batch judges it.
@@ -128,11 +149,15 @@ pub extern "C" fn strikes_take_batch(
 ) -> u64
     ensures { Returned settings.now words.old (asking taken_batch register fp stamp reading flag kind number) result words.new (verdict.old ∷ []) (verdict.new ∷ []) }
 {
-    let sent = send(strikes::take_batch(
+    match strikes::take_batch(
         settings, words, register, fp, stamp, reading, flag, kind, number,
-    ));
-    *verdict = sent.first_or(*verdict);
-    sent.status
+    ) {
+        Ok(found) => {
+            *verdict = u64::from(found);
+            0
+        }
+        Err(refusal) => u64::from(refusal),
+    }
 }
 
 // The rule that gives strikes_take's verdict, the class that it names, and that verdict. The words are only read.
@@ -153,13 +178,17 @@ pub extern "C" fn strikes_explain(
 ) -> u64
     ensures { Read settings.now words.now (explaining register fp stamp reading flag kind number) result (rule.old ∷ class.old ∷ verdict.old ∷ []) (rule.new ∷ class.new ∷ verdict.new ∷ []) }
 {
-    let sent = send(strikes::explain(
+    match strikes::explain(
         settings, words, register, fp, stamp, reading, flag, kind, number,
-    ));
-    *rule = sent.first_or(*rule);
-    *class = sent.second_or(*class);
-    *verdict = sent.third_or(*verdict);
-    sent.status
+    ) {
+        Ok(reason) => {
+            *rule = codes::reason_number(reason);
+            *class = codes::reason_class(reason);
+            *verdict = u64::from(codes::reason_verdict(reason));
+            0
+        }
+        Err(refusal) => u64::from(refusal),
+    }
 }
 
 // The smallest stamp for which strikes_take_batch would give the wanted verdict, or none. The words are only read.
@@ -179,12 +208,21 @@ pub extern "C" fn strikes_stamp_for(
 ) -> u64
     ensures { Read settings.now words.now (seeking register fp reading flag kind number wanted) result (found.old ∷ stamp.old ∷ []) (found.new ∷ stamp.new ∷ []) }
 {
-    let sent = send(strikes::stamp_for(
+    match strikes::stamp_for(
         settings, words, register, fp, reading, flag, kind, number, wanted,
-    ));
-    *found = sent.first_or(*found);
-    *stamp = sent.second_or(*stamp);
-    sent.status
+    ) {
+        Ok(Some(least)) => {
+            *found = 1;
+            *stamp = least;
+            0
+        }
+        Ok(None) => {
+            *found = 0;
+            *stamp = 0;
+            0
+        }
+        Err(refusal) => u64::from(refusal),
+    }
 }
 
 // Whether a fingerprint is held in any bucket of any class.
@@ -198,9 +236,13 @@ pub extern "C" fn strikes_contains_hash(
 ) -> u64
     ensures { Read settings.now words.now (On register (ContainsHash fp)) result (held.old ∷ []) (held.new ∷ []) }
 {
-    let sent = send(strikes::contains_hash(settings, words, register, fp));
-    *held = sent.first_or(*held);
-    sent.status
+    match strikes::contains_hash(settings, words, register, fp) {
+        Ok(yes) => {
+            *held = u64::from(yes);
+            0
+        }
+        Err(refusal) => u64::from(refusal),
+    }
 }
 
 // Begins: 1 where a pending register's floor was raised to the host's number, 0 where it was not pending.
@@ -214,9 +256,13 @@ pub extern "C" fn strikes_begin(
 ) -> u64
     ensures { Returned settings.now words.old (On register (Begin number)) result words.new (begun.old ∷ []) (begun.new ∷ []) }
 {
-    let sent = send(strikes::begin(settings, words, register, number));
-    *begun = sent.first_or(*begun);
-    sent.status
+    match strikes::begin(settings, words, register, number) {
+        Ok(was_pending) => {
+            *begun = u64::from(was_pending);
+            0
+        }
+        Err(refusal) => u64::from(refusal),
+    }
 }
 
 // Sweeps, as the host's tick does.
@@ -229,8 +275,7 @@ pub extern "C" fn strikes_sweep(
 ) -> u64
     ensures { Returned settings.now words.old (On register (Sweep reading)) result words.new [] [] }
 {
-    let sent = send(strikes::sweep(settings, words, register, reading));
-    sent.status
+    status(strikes::sweep(settings, words, register, reading))
 }
 
 // Frees the entries of seconds that the reading and every register's sweep have passed.
@@ -238,8 +283,7 @@ pub extern "C" fn strikes_sweep(
 pub extern "C" fn strikes_expire(settings: &[u64], words: &mut [u64], reading: u64) -> u64
     ensures { Returned settings.now words.old (Expire reading) result words.new [] [] }
 {
-    let sent = send(strikes::expire(settings, words, reading));
-    sent.status
+    status(strikes::expire(settings, words, reading))
 }
 
 // Sets the five limits anew.
@@ -247,8 +291,7 @@ pub extern "C" fn strikes_expire(settings: &[u64], words: &mut [u64], reading: u
 pub extern "C" fn strikes_set_limits(settings: &[u64], words: &mut [u64], limits: &[u64]) -> u64
     ensures { Returned settings.now words.old (SetLimits limits.now) result words.new [] [] }
 {
-    let sent = send(strikes::set_limits(settings, words, limits));
-    sent.status
+    status(strikes::set_limits(settings, words, limits))
 }
 
 // Closes the share book.
@@ -256,8 +299,7 @@ pub extern "C" fn strikes_set_limits(settings: &[u64], words: &mut [u64], limits
 pub extern "C" fn strikes_close(settings: &[u64], words: &mut [u64]) -> u64
     ensures { Returned settings.now words.old Close result words.new [] [] }
 {
-    let sent = send(strikes::close(settings, words));
-    sent.status
+    status(strikes::close(settings, words))
 }
 
 // Writes a register's dump at the start of an output, and leaves what lies behind it: the bytes written.
@@ -271,9 +313,13 @@ pub extern "C" fn strikes_dump(
 ) -> u64
     ensures { Written settings.now words.now (On register (DumpTo out.old)) result out.new (written.old ∷ []) (written.new ∷ []) }
 {
-    let sent = send(strikes::dump(settings, words, register, out));
-    *written = sent.first_or(*written);
-    sent.status
+    match strikes::dump(settings, words, register, out) {
+        Ok(length) => {
+            *written = length as u64;
+            0
+        }
+        Err(refusal) => u64::from(refusal),
+    }
 }
 
 // Writes a register's view at the start of an output, and leaves what lies behind it: the words written.
@@ -287,9 +333,13 @@ pub extern "C" fn strikes_view_register(
 ) -> u64
     ensures { Written settings.now words.now (On register (ViewRegister out.old)) result out.new (written.old ∷ []) (written.new ∷ []) }
 {
-    let sent = send(strikes::view_register(settings, words, register, out));
-    *written = sent.first_or(*written);
-    sent.status
+    match strikes::view_register(settings, words, register, out) {
+        Ok(length) => {
+            *written = length as u64;
+            0
+        }
+        Err(refusal) => u64::from(refusal),
+    }
 }
 
 // Writes a deliverer's view at the start of an output, and leaves what lies behind it: the words written.
@@ -304,9 +354,13 @@ pub extern "C" fn strikes_view_deliverer(
 ) -> u64
     ensures { Written settings.now words.now (ViewDeliverer kind number out.old) result out.new (written.old ∷ []) (written.new ∷ []) }
 {
-    let sent = send(strikes::view_deliverer(settings, words, kind, number, out));
-    *written = sent.first_or(*written);
-    sent.status
+    match strikes::view_deliverer(settings, words, kind, number, out) {
+        Ok(length) => {
+            *written = length as u64;
+            0
+        }
+        Err(refusal) => u64::from(refusal),
+    }
 }
 
 // Reads a dump back into a register: 1 where all of it came in, else 0, and the bytes that it has.
@@ -321,10 +375,19 @@ pub extern "C" fn strikes_restore(
 ) -> u64
     ensures { Returned settings.now words.old (On register (Restore bytes.now)) result words.new (whole.old ∷ read.old ∷ []) (whole.new ∷ read.new ∷ []) }
 {
-    let sent = send(strikes::restore(settings, words, register, bytes));
-    *whole = sent.first_or(*whole);
-    *read = sent.second_or(*read);
-    sent.status
+    match strikes::restore(settings, words, register, bytes) {
+        Ok(Restored::Whole(length)) => {
+            *whole = 1;
+            *read = length;
+            0
+        }
+        Ok(Restored::Partly(length)) => {
+            *whole = 0;
+            *read = length;
+            0
+        }
+        Err(refusal) => u64::from(refusal),
+    }
 }
 
 // As strikes_restore, but the register's own floor is forgotten first. `flag` is 1 where a floor is proven, to which it is raised after.
@@ -341,10 +404,19 @@ pub extern "C" fn strikes_resume(
 ) -> u64
     ensures { Returned settings.now words.old (On register (Resume bytes.now flag floor)) result words.new (whole.old ∷ read.old ∷ []) (whole.new ∷ read.new ∷ []) }
 {
-    let sent = send(strikes::resume(settings, words, register, bytes, flag, floor));
-    *whole = sent.first_or(*whole);
-    *read = sent.second_or(*read);
-    sent.status
+    match strikes::resume(settings, words, register, bytes, flag, floor) {
+        Ok(Restored::Whole(length)) => {
+            *whole = 1;
+            *read = length;
+            0
+        }
+        Ok(Restored::Partly(length)) => {
+            *whole = 0;
+            *read = length;
+            0
+        }
+        Err(refusal) => u64::from(refusal),
+    }
 }
 
 // Whether there is a floor, and the floor, 0 where there is none.
@@ -358,10 +430,19 @@ pub extern "C" fn strikes_floor(
 ) -> u64
     ensures { Read settings.now words.now (On register Floor) result (present.old ∷ floor.old ∷ []) (present.new ∷ floor.new ∷ []) }
 {
-    let sent = send(strikes::floor(settings, words, register));
-    *present = sent.first_or(*present);
-    *floor = sent.second_or(*floor);
-    sent.status
+    match strikes::floor(settings, words, register) {
+        Ok(Some(at)) => {
+            *present = 1;
+            *floor = at;
+            0
+        }
+        Ok(None) => {
+            *present = 0;
+            *floor = 0;
+            0
+        }
+        Err(refusal) => u64::from(refusal),
+    }
 }
 
 // Whether the register waits for the host's number.
@@ -374,9 +455,13 @@ pub extern "C" fn strikes_pending(
 ) -> u64
     ensures { Read settings.now words.now (On register Pending) result (pending.old ∷ []) (pending.new ∷ []) }
 {
-    let sent = send(strikes::pending(settings, words, register));
-    *pending = sent.first_or(*pending);
-    sent.status
+    match strikes::pending(settings, words, register) {
+        Ok(yes) => {
+            *pending = u64::from(yes);
+            0
+        }
+        Err(refusal) => u64::from(refusal),
+    }
 }
 
 // The bucket up to which the register is swept, and the published sweep in milliseconds.
@@ -390,10 +475,14 @@ pub extern "C" fn strikes_swept(
 ) -> u64
     ensures { Read settings.now words.now (On register SweptBucket) result (bucket.old ∷ published.old ∷ []) (bucket.new ∷ published.new ∷ []) }
 {
-    let sent = send(strikes::swept(settings, words, register));
-    *bucket = sent.first_or(*bucket);
-    *published = sent.second_or(*published);
-    sent.status
+    match strikes::swept(settings, words, register) {
+        Ok(swept) => {
+            *bucket = swept.bucket.0;
+            *published = swept.published.0;
+            0
+        }
+        Err(refusal) => u64::from(refusal),
+    }
 }
 
 // The entries that a deliverer holds.
@@ -407,9 +496,13 @@ pub extern "C" fn strikes_held(
 ) -> u64
     ensures { Read settings.now words.now (HeldBy kind number) result (entries.old ∷ []) (entries.new ∷ []) }
 {
-    let sent = send(strikes::held(settings, words, kind, number));
-    *entries = sent.first_or(*entries);
-    sent.status
+    match strikes::held(settings, words, kind, number) {
+        Ok(count) => {
+            *entries = count;
+            0
+        }
+        Err(refusal) => u64::from(refusal),
+    }
 }
 
 // A class's entries, holders, units and expired second.
@@ -425,10 +518,14 @@ pub extern "C" fn strikes_class(
 ) -> u64
     ensures { Read settings.now words.now (ClassTotals class) result (entries.old ∷ holders.old ∷ units.old ∷ expired.old ∷ []) (entries.new ∷ holders.new ∷ units.new ∷ expired.new ∷ []) }
 {
-    let sent = send(strikes::class_totals(settings, words, class));
-    *entries = sent.first_or(*entries);
-    *holders = sent.second_or(*holders);
-    *units = sent.third_or(*units);
-    *expired = sent.fourth_or(*expired);
-    sent.status
+    match strikes::class_totals(settings, words, class) {
+        Ok(totals) => {
+            *entries = totals.entries;
+            *holders = totals.holders;
+            *units = totals.units;
+            *expired = totals.expired;
+            0
+        }
+        Err(refusal) => u64::from(refusal),
+    }
 }

@@ -93,7 +93,7 @@ module _ (s : Settings) (r : ℕ) (seen : Seen) (k : Ticket) (ws : List ℕ) (h 
         rw (← d, sym said ∙ e) (q ∙ ap room_reason (g.says t ok is));
   }
 
--- ---- the rules of judge come first: none of them names Accepted, so its number tells whether one is met
+-- ---- the rules of judge come first: none of them names Accepted, so Accepted tells that none is met
 unfoldable none_accepts : List (Rule Reason) → Bool
 none_accepts [] = true
 none_accepts (x ∷ xs) = not (eqb (reason_number x.names) 0) && none_accepts xs
@@ -108,19 +108,19 @@ named_above (x ∷ xs) p n (later not_met first) z =
     named_above xs (both_true (not (eqb (reason_number x.names) 0)) (none_accepts xs) p).1 n first z
 
 module _ (y : Reason) (xs : List (Rule Reason)) where
-  first_stands : (reason_number (first_of Accepted xs) ≡ 0 → ⊥) → first_of y xs ≡ first_of Accepted xs
-  unfolding reason_number
+  first_stands : (first_of Accepted xs ≡ Accepted → ⊥) → first_of y xs ≡ first_of Accepted xs
   first_stands n = by_cases (met_or_none xs)
     where
       by_cases : ((m : Reason) × First m xs) ⊎ NoneMet xs → first_of y xs ≡ first_of Accepted xs
       by_cases (inl (m, f)) = first_is y m xs f ∙ sym (first_is Accepted m xs f)
-      by_cases (inr none) = absurd (n (ap reason_number (none_is Accepted xs none)))
+      by_cases (inr none) = absurd (n (none_is Accepted xs none))
 
-  first_passes : none_accepts xs ≡ true → reason_number (first_of Accepted xs) ≡ 0 → first_of y xs ≡ y
+  first_passes : none_accepts xs ≡ true → first_of Accepted xs ≡ Accepted → first_of y xs ≡ y
+  unfolding reason_number
   first_passes p z = by_cases (met_or_none xs)
     where
       by_cases : ((m : Reason) × First m xs) ⊎ NoneMet xs → first_of y xs ≡ y
-      by_cases (inl (m, f)) = absurd (named_above xs p m f (ap reason_number (sym (first_is Accepted m xs f)) ∙ z))
+      by_cases (inl (m, f)) = absurd (named_above xs p m f (ap reason_number (sym (first_is Accepted m xs f) ∙ z)))
       by_cases (inr none) = none_is y xs none
 
 judge_accepts : (u : Usable) (reg : Register) (a : Ask) → none_accepts (judge_rules u reg a) ≡ true
@@ -164,7 +164,7 @@ module _ (s : Settings) (r : ℕ) (seen : Seen) (a : Ask) where
     same_seen t =
         rw (q.who, q.fp, q.bucket)
         (ap (make_room (usable_at s r).slots (bucket_of (usable_at s r) a.stamp) (as_read a.fp))
-        (each_pick (swept_ring seen.from.0 seen.through.0) (class_of a.who) (register_at r t).rings))
+        (each_pick (swept_ring seen.buckets.from.0 seen.buckets.through.0) (class_of a.who) (register_at r t).rings))
 
     share_is : (t : State) → share_reason s r seen k t ≡ rest (left_by seen (register_at r t)) t
     unfolding share_reason draw_says
@@ -173,7 +173,7 @@ module _ (s : Settings) (r : ℕ) (seen : Seen) (a : Ask) where
         let m = room_seen s r seen k t in
         by_draw d (room_reason m) ∙ ap (after_draw d) (same_room m ∙ ap reason_of_room (same_seen t)) ∙ rw (q.who, q.second)
 
-  module _ (ws : List ℕ) (v : Reason) (one : StateReads s (judge_reason s r seen a) ws v) (n : ℕ) (number : n ≡ reason_number v) where
+  module _ (ws : List ℕ) (v : Reason) (one : StateReads s (judge_reason s r seen a) ws v) where
     judged : (t : State) → (state_form s).Ok t → ws ≡ (state_form s).enc t → v ≡ first_of Accepted (judge_rules (usable_at s r) (left_by seen (register_at r t)) a)
     unfolding judge_reason judge_rule first_rule
     judged t ok is = one.says t ok is
@@ -184,16 +184,16 @@ module _ (s : Settings) (r : ℕ) (seen : Seen) (a : Ask) where
     all_rules t = first_parts (usable_at s r) s.shares t.book a (left_by seen (register_at r t))
 
     -- one of judge's rules is met
-    pub judge_stands : (n ≡ 0 → ⊥) → StateReads s (reason_seen s r seen a) ws v
+    pub judge_stands : (v ≡ Accepted → ⊥) → StateReads s (reason_seen s r seen a) ws v
     judge_stands z = record {
       says = λ t ok is.
           let reg = left_by seen (register_at r t) in
           let j = judged t ok is in
-          j ∙ sym (all_rules t ∙ first_stands (rest reg t) (judge_rules (usable_at s r) reg a) (λ e. z (number ∙ ap reason_number j ∙ e)));
+          j ∙ sym (all_rules t ∙ first_stands (rest reg t) (judge_rules (usable_at s r) reg a) (λ e. z (j ∙ e)));
     }
 
     -- none is
-    pub judge_passes : n ≡ 0 → (p : RegisterExtent) → RegisterAt s r p → (k : Ticket) → Suits p.u a k → (x : Reason)
+    pub judge_passes : v ≡ Accepted → (p : RegisterExtent) → RegisterAt s r p → (k : Ticket) → Suits p.u a k → (x : Reason)
         → StateReads s (share_reason s r seen k) ws x → StateReads s (reason_seen s r seen a) ws x
     judge_passes z p l k suits x two = record {
       says = λ t ok is.
@@ -201,7 +201,7 @@ module _ (s : Settings) (r : ℕ) (seen : Seen) (a : Ask) where
           let u = usable_at s r in
           let q : Suits u a k = subst (λ (v : Usable). Suits v a k) l.usable suits in
           let j = judged t ok is in
-          let none = sym (ap reason_number j) ∙ sym number ∙ z in
+          let none = sym j ∙ z in
           two.says t ok is ∙ share_is k q t ∙ sym (all_rules t ∙ first_passes (rest reg t) (judge_rules u reg a) (judge_accepts u reg a) none);
     }
 

@@ -4,12 +4,12 @@
 
 mod explaining;
 mod on_register;
+mod one_register;
 mod shares;
 mod tickets;
 
 ghost use Rattle.std.specs.Prelude.{◌≡◌, ◌<◌};
 ghost use Rattle.model.specs.Calls.{asked, taken, taken_batch};
-ghost use Rattle.numbers.specs.RegisterAt.{RegisterAt};
 ghost use Rattle.register.specs.Rules.{asked_by};
 ghost use Rattle.taking.specs.Rules.{Proper, Granted, room_verdict, taken_room, room_says, taken_share, share_says, left, rest_of, take_says, take_batch_says};
 ghost use Rattle.taking.specs.Words.{RunWords, StateTurns};
@@ -18,8 +18,8 @@ use book::{Spot, decide};
 pub use explaining::{explain, explain_seen};
 use model::{Room, Settings, Verdict};
 use numbers::starts;
-use numbers::starts::RegisterExtent;
 pub use on_register::see;
+pub use one_register::OneRegister;
 use register::Ask;
 use tickets::Ticket;
 
@@ -35,65 +35,39 @@ fn refused_by(room: Room) -> Verdict
 }
 
 // With a share to be had: where there is room the share is entered and the fingerprint struck, and otherwise nothing is altered.
-fn take_room(
-    run: &mut [u64],
-    s: Settings,
-    r: usize,
-    extent: RegisterExtent,
-    ticket: Ticket,
-    spot: Spot,
-) -> Verdict
-    requires { (RunWords s run.old × RegisterAt s r extent) × (Proper ticket × Granted s ticket run.old spot) }
-    ensures { StateTurns s (taken_room s r ticket) (room_says s r ticket) run.old run.new result }
+fn take_room(run: &mut [u64], on: &OneRegister, ticket: Ticket, spot: Spot) -> Verdict
+    requires { RunWords on.now.s run.old × (Proper ticket × Granted on.now.s ticket run.old spot) }
+    ensures { StateTurns on.now.s (taken_room on.now.s on.now.r ticket) (room_says on.now.s on.now.r ticket) run.old run.new result }
 {
-    let room = on_register::room(run, s, r, extent, ticket);
+    let room = on_register::room(run, on, ticket);
     let Room::At(position) = room else {
         return refused_by(room);
     };
-    shares::enter(run, s, ticket, spot);
-    on_register::strike(run, s, r, extent, ticket, position);
+    shares::enter(run, on.s, ticket, spot);
+    on_register::strike(run, on, ticket, position);
     Verdict::New
 }
 
 // A ticket that was judged new: its share first.
-fn take_share(
-    run: &mut [u64],
-    s: Settings,
-    r: usize,
-    extent: RegisterExtent,
-    ticket: Ticket,
-) -> Verdict
-    requires { (RunWords s run.old × RegisterAt s r extent) × Proper ticket }
-    ensures { StateTurns s (taken_share s r ticket) (share_says s r ticket) run.old run.new result }
+fn take_share(run: &mut [u64], on: &OneRegister, ticket: Ticket) -> Verdict
+    requires { RunWords on.now.s run.old × Proper ticket }
+    ensures { StateTurns on.now.s (taken_share on.now.s on.now.r ticket) (share_says on.now.s on.now.r ticket) run.old run.new result }
 {
-    let share = shares::look_up(run, s, ticket);
-    let draw = share.draw;
-    if !decide::is_granted(draw) {
+    let share = shares::look_up(run, on.s, ticket);
+    if !decide::is_granted(share.draw) {
         return Verdict::Full;
     }
-    let spot = share.spot;
-    take_room(run, s, r, extent, ticket, spot)
+    take_room(run, on, ticket, share.spot)
 }
 
 // What is left of a take once the ticket is judged.
-fn take_judged(
-    run: &mut [u64],
-    s: Settings,
-    r: usize,
-    extent: RegisterExtent,
-    ask: Ask,
-    verdict: Verdict,
-) -> Verdict
-    requires { RunWords s run.old × RegisterAt s r extent }
-    ensures { StateTurns s (λ t. left r (rest_of s r (asked_by ask) verdict t) t) (λ t. (rest_of s r (asked_by ask) verdict t).says) run.old run.new result }
+fn take_judged(run: &mut [u64], on: &OneRegister, ask: Ask, verdict: Verdict) -> Verdict
+    requires { RunWords on.now.s run.old }
+    ensures { StateTurns on.now.s (λ t. left on.now.r (rest_of on.now.s on.now.r (asked_by ask) verdict t) t) (λ t. (rest_of on.now.s on.now.r (asked_by ask) verdict t).says) run.old run.new result }
 {
     match verdict {
-        Verdict::New => take_share(run, s, r, extent, tickets::ticket_of(extent.u, ask)),
-        Verdict::Duplicate => verdict,
-        Verdict::Late => verdict,
-        Verdict::Ahead => verdict,
-        Verdict::Full => verdict,
-        Verdict::Unjudged => verdict,
+        Verdict::New => take_share(run, on, tickets::ticket_of(on.extent.u, ask)),
+        _ => verdict,
     }
 }
 
@@ -102,9 +76,13 @@ pub fn take(run: &mut [u64], s: Settings, r: usize, ask: Ask) -> Verdict
     requires { RunWords s run.old × (r < s.registers) }
     ensures { StateTurns s (λ t. (asked s r taken (asked_by ask) t).state) (take_says s r (asked_by ask)) run.old run.new result }
 {
-    let extent = starts::register_extent(s, r);
-    let verdict = on_register::judge(run, s, r, extent, ask);
-    take_judged(run, s, r, extent, ask, verdict)
+    let on = OneRegister {
+        s,
+        r,
+        extent: starts::register_extent(s, r),
+    };
+    let verdict = on_register::judge(run, &on, ask);
+    take_judged(run, &on, ask, verdict)
 }
 
 // As `take`, for a batch: judged as `judge_batch` judges it.
@@ -112,7 +90,11 @@ pub fn take_batch(run: &mut [u64], s: Settings, r: usize, ask: Ask) -> Verdict
     requires { RunWords s run.old × (r < s.registers) }
     ensures { StateTurns s (λ t. (asked s r taken_batch (asked_by ask) t).state) (take_batch_says s r (asked_by ask)) run.old run.new result }
 {
-    let extent = starts::register_extent(s, r);
-    let verdict = on_register::judge_batch(run, s, r, extent, ask);
-    take_judged(run, s, r, extent, ask, verdict)
+    let on = OneRegister {
+        s,
+        r,
+        extent: starts::register_extent(s, r),
+    };
+    let verdict = on_register::judge_batch(run, &on, ask);
+    take_judged(run, &on, ask, verdict)
 }

@@ -33,10 +33,7 @@ fn look(
 {
     let spot = book::find(part, b, who, second);
     let draw = book::draw(part, b, limits, closed, who, spot);
-    Share {
-        spot: spot,
-        draw: draw,
-    }
+    Share { spot, draw }
 }
 
 // The same in the whole run: the limits and the closed flag stand in the front.
@@ -46,11 +43,16 @@ pub fn look_up(run: &[u64], s: Settings, ticket: Ticket) -> Share
 {
     let limits = front::kept_limits(&run[0..layout::FRONT]);
     let closed = front::is_closed(&run[0..layout::FRONT]);
-    let who = ticket.who;
-    let second = ticket.second;
-    let a = starts::class_start(s, codes::class_of(who));
+    let a = starts::class_start(s, codes::class_of(ticket.who));
     let e = a + starts::class_width(s.shares);
-    look(&run[a..e], s.shares, limits, closed, who, second)
+    look(
+        &run[a..e],
+        s.shares,
+        limits,
+        closed,
+        ticket.who,
+        ticket.second,
+    )
 }
 
 // A granted draw is entered.
@@ -58,8 +60,7 @@ pub fn enter(run: &mut [u64], s: Settings, ticket: Ticket, spot: Spot)
     requires { RunWords s run.old × (Proper ticket × Granted s ticket run.old spot) }
     ensures { RunWords s run.new × StateTurns s (drawn_by s ticket) silent run.old run.new (tt {0}) }
 {
-    let who = ticket.who;
-    let a = starts::class_start(s, codes::class_of(who));
+    let a = starts::class_start(s, codes::class_of(ticket.who));
     let e = a + starts::class_width(s.shares);
-    book::enter(&mut run[a..e], s.shares, who, spot);
+    book::enter(&mut run[a..e], s.shares, ticket.who, spot);
 }

@@ -20,15 +20,12 @@ pub struct Ticket {
 pub fn ticket_of(u: Usable, ask: Ask) -> Ticket
     ensures { Suits u (asked_by ask) result }
 {
-    let who = ask.who;
-    let fp = spans::as_read(ask.fp);
     let bucket = spans::bucket_of(u, ask.stamp);
-    let second = spans::second_of(bucket, u.bucket);
     Ticket {
-        who: who,
-        fp: fp,
+        who: ask.who,
+        fp: spans::as_read(ask.fp),
         stamp: ask.stamp,
-        bucket: bucket,
-        second: second,
+        bucket,
+        second: spans::second_of(bucket, u.bucket),
     }
 }

@@ -1,28 +1,28 @@
--- What a call enters with, once its settings are read.
-use Rattle.std.specs.Prelude.{ℕ, ◌≤◌, ◌≡◌, true, List, length}
+-- What a call enters with, once its settings are read: the words that they need, or the refusal of the rules.
+use Rattle.std.specs.Prelude.{ℕ, ◌≤◌, ◌≡◌, true, List, length, Result, MatchResult}
+use Rattle.model.specs.declared.Refusal.{Refusal}
+use Rattle.model.specs.Answer.{refusal_number}
 use Rattle.model.specs.Settings.{settings_of, words_needed}
 use Rattle.model.specs.Calls.{settings_words_fit}
-use Rattle.vet.specs.declared.Entry.{Entry}
 
--- refused, with no words
-pub record Shut (n : ℕ) (e : Entry) : Type 0 where
-  pub refusal : e.refusal ≡ n
-  pub none : e.need ≡ 0
+-- refused with v
+abbrev pub Refuses : ℕ → Refusal → Type 0
+Refuses v e = refusal_number e ≡ v
 
--- the settings fit, and the words that they need
-pub record Ready (st : List ℕ) (e : Entry) : Type 0 where
+-- v refuses nothing: the settings fit, and the words that they need
+pub record Ready (st : List ℕ) (v n : ℕ) : Type 0 where
+  pub passed : v ≡ 0
   pub fit : settings_words_fit st ≡ true
-  pub need : e.need ≡ words_needed (settings_of st)
+  pub need : n ≡ words_needed (settings_of st)
 
--- a call enters, or is refused with v and has no words
-pub record Enters (st : List ℕ) (v : ℕ) (e : Entry) : Type 0 where
-  pub refusal : e.refusal ≡ v
-  pub ready : e.refusal ≡ 0 → Ready st e
-  pub none : (e.refusal ≡ 0 → ⊥) → e.need ≡ 0
+-- the same, and the words that it may use are there
+pub record ReadyWithin (st ws : List ℕ) (v n : ℕ) : Type 0 where
+  pub ready : Ready st v n
+  pub within : n ≤ length ws
 
--- the same, and the words that it may use are there whether it is refused or not
-pub record EntersWithin (st ws : List ℕ) (v : ℕ) (e : Entry) : Type 0 where
-  pub refusal : e.refusal ≡ v
-  pub ready : e.refusal ≡ 0 → Ready st e
-  pub none : (e.refusal ≡ 0 → ⊥) → e.need ≡ 0
-  pub within : e.need ≤ length ws
+-- a call enters, or is refused with v
+abbrev pub Enters : List ℕ → ℕ → Result ℕ Refusal → Type 0
+Enters st v r = MatchResult r (Ready st v) (Refuses v)
+
+abbrev pub EntersWithin : List ℕ → List ℕ → ℕ → Result ℕ Refusal → Type 0
+EntersWithin st ws v r = MatchResult r (ReadyWithin st ws v) (Refuses v)

@@ -1,68 +1,47 @@
 // What may be refused before a call does anything: a function for each stage, in the order in which refusals are tried. Settings (1)
-// and words enough (2) here, limits, starts and codes (1) in `handed`, words sound (3) in `sound`.
+// and words enough (2) here, limits and starts (1) in `handed`, words sound (3) in `sound`.
 // None writes, and nothing above this crate tests settings or soundness again.
 #![tactic(auto)]
 
 ghost use Rattle.std.specs.Prelude.{◌≡◌};
 ghost use Rattle.vet.specs.Vetted.{unfit_alone, vetted};
-ghost use Rattle.vet.specs.Entries.{Shut, Enters, EntersWithin};
+ghost use Rattle.vet.specs.Entries.{Enters, EntersWithin};
 
+use model::Refusal;
 use numbers::{bounds, starts};
 
 mod handed;
 mod sound;
 
-pub use handed::{limits_fit, starts_fit, ticket_fits};
+pub use handed::{limits_of, starts_fit};
 
-// What a call enters with: the first refusal that was met, or 0, and then the words that its settings need. The settings themselves
-// are read by whoever needs them: 29 numbers by value would cost more than reading them again.
-#[derive(Clone, Copy)]
-pub struct Entry {
-    pub refusal: u64,
-    pub need: usize,
-}
-
-// A call that is refused enters with no words.
-pub fn shut(refusal: u64) -> Entry
-    ensures { Shut refusal result }
-{
-    Entry {
-        refusal: refusal,
-        need: 0,
-    }
-}
-
-// Settings of 29 words, each in its bounds, or 1.
-pub fn settings_entry(settings: &[u64]) -> Entry
+// Settings of 29 words, each in its bounds, or 1: the words that they need. The settings themselves are read by whoever needs them:
+// 29 numbers by value would cost more than reading them again.
+#[tactic(auto, unfolding(crate::specs::Vetted::unfit_alone, model::specs::Calls::first_met, model::specs::Calls::settings_words_fit))]
+pub fn settings_entry(settings: &[u64]) -> Result<usize, Refusal>
     ensures { Enters settings.now (unfit_alone settings.now) result }
 {
     if settings.len() != bounds::SETTINGS {
-        return shut(1);
+        return Err(Refusal::Unfit);
     }
     let s = bounds::settings_of(settings);
     if !bounds::settings_fit(s) {
-        return shut(1);
+        return Err(Refusal::Unfit);
     }
-    Entry {
-        refusal: 0,
-        need: starts::needed(s),
-    }
+    Ok(starts::needed(s))
 }
 
-// The first refusal that the settings and the words cause: 1, 2 or 3. A call tests its own codes before it.
-pub fn vet(settings: &[u64], words: &[u64]) -> Entry
+// The first refusal that the settings and the words cause, 1, 2 or 3, or the words that the settings need. A call tests its own codes
+// before it.
+pub fn vet(settings: &[u64], words: &[u64]) -> Result<usize, Refusal>
     ensures { EntersWithin settings.now words.now (vetted settings.now words.now) result }
 {
-    let e = settings_entry(settings);
-    if e.refusal != 0 {
-        return shut(e.refusal);
-    }
-    let need = e.need;
+    let need = settings_entry(settings)?;
     if words.len() < need {
-        return shut(2);
+        return Err(Refusal::TooFewWords);
     }
     if !sound::words_sound(bounds::settings_of(settings), need, words) {
-        return shut(3);
+        return Err(Refusal::UnsoundWords);
     }
-    e
+    Ok(need)
 }

@@ -6,7 +6,7 @@ ghost use Rattle.model.specs.RegisterWords.{each_form, ring_form, register_form,
 ghost use Rattle.model.specs.Words.{front_sound as front_rule, book_form, registers_form, unused_width, class_width, ring_width, register_width};
 ghost use Rattle.model.specs.Calls.{sound};
 
-use model::{Bucket, Class, Limits, Settings, Usable};
+use model::{Bucket, Class, Limits, Settings, Shares, Usable, Window};
 use numbers::{bounds, layout, spans, starts};
 
 // The front: it keeps the settings that the call brings, its limits are in bounds, and the closed flag is a flag.
@@ -21,12 +21,13 @@ fn front_sound(s: Settings, front: &[u64]) -> bool
         peers: front[layout::PEERS_LIMIT],
         relay: front[layout::RELAY_LIMIT],
     });
-    let b = s.shares;
-    let kept = (front[layout::REGISTERS] == s.registers)
-        & ((front[layout::PLACES] == b.places)
-            & ((front[layout::PAIRS] == b.pairs)
-                & ((front[layout::FEEDER_UNITS] == b.feeder)
-                    & (front[layout::PEER_UNITS] == b.peer))));
+    let shares = Shares {
+        places: front[layout::PLACES],
+        pairs: front[layout::PAIRS],
+        feeder: front[layout::FEEDER_UNITS],
+        peer: front[layout::PEER_UNITS],
+    };
+    let kept = (front[layout::REGISTERS] == s.registers) & (shares == s.shares);
     kept & (limits & (front[layout::CLOSED] <= 1))
 }
 
@@ -37,12 +38,19 @@ fn heading_sound(u: Usable, heading: &[u64]) -> bool
     ensures { result ≡ heading_rule u heading.now }
 {
     let published = spans::published(u, Bucket(heading[layout::SWEPT]));
-    let kept = (heading[layout::ORIGIN_BEHIND] == u.origin.behind)
-        & ((heading[layout::ORIGIN_AHEAD] == u.origin.ahead)
-            & ((heading[layout::COPY_BEHIND] == u.copy.behind)
-                & ((heading[layout::COPY_AHEAD] == u.copy.ahead)
-                    & ((heading[layout::BUCKET] == u.bucket)
-                        & (heading[layout::SLOTS] == u.slots)))));
+    let usable = Usable {
+        origin: Window {
+            behind: heading[layout::ORIGIN_BEHIND],
+            ahead: heading[layout::ORIGIN_AHEAD],
+        },
+        copy: Window {
+            behind: heading[layout::COPY_BEHIND],
+            ahead: heading[layout::COPY_AHEAD],
+        },
+        bucket: heading[layout::BUCKET],
+        slots: heading[layout::SLOTS],
+    };
+    let kept = usable == u;
     let floor = (heading[layout::HAS_FLOOR] <= 1)
         & ((heading[layout::HAS_FLOOR] == 1) | (heading[layout::FLOOR] == 0));
     kept & ((heading[layout::PUBLISHED] == published.0) & (floor & (heading[layout::PENDING] <= 1)))
@@ -53,13 +61,16 @@ fn rings_sound(u: Usable, rings: &[u64]) -> bool
     requires { (usable_fit u ≡ true) × (length rings.now ≡ 3 * ring_width u) }
     ensures { result ≡ (each_form (λ c. ring_form u)).test rings.now }
 {
-    let slots = u.slots as usize;
     let n = spans::ring_of(u) as usize;
+    let shape = ring::Shape {
+        slots: u.slots as usize,
+        ring: n,
+    };
     let a = starts::ring_width(u);
     let b = 2 * a;
-    let feeders = ring::is_sound(&rings[0..a], slots, n);
-    let peers = ring::is_sound(&rings[a..b], slots, n);
-    let own = ring::is_sound(&rings[b..], slots, n);
+    let feeders = ring::is_sound(&rings[0..a], shape);
+    let peers = ring::is_sound(&rings[a..b], shape);
+    let own = ring::is_sound(&rings[b..], shape);
     feeders & (peers & own)
 }
 
@@ -79,17 +90,14 @@ fn registers_sound(s: Settings, words: &[u64]) -> bool
     requires { (settings_fit s ≡ true) × ((registers_form s).wide ≤ length words.now) }
     ensures { result ≡ (both (registers_form s) (free (unused_width s))).test words.now }
 {
-    let n = s.registers as usize;
     let mut all = true;
     let mut a = 0;
-    let mut i = 0;
-    while i < n {
+    for i in 0..s.registers as usize {
         let u = bounds::usable_in(s, i);
         let e = a + starts::register_width(u);
         let ok = register_sound(u, &words[a..e]);
-        all = all & ok;
+        all &= ok;
         a = e;
-        i += 1;
     }
     all
 }

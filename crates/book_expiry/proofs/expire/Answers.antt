@@ -1,30 +1,31 @@
+use Rattle.std.proofs.Common.{◌≤◌, ◌<◌, ◌+◌, ap, arith, get_or}
+use Rattle.model.specs.Numbers.{cap32}
+use Rattle.book.specs.declared.totals.Totals.{Totals}
 use Rattle.book_expiry.proofs.Ended.{noted, waits, moves_on}
 use Rattle.book_expiry.proofs.expire.Goals as goal
 
-pub returns-then-capped_to_32-expired : goal.returns-then-capped_to_32-expired
-returns-then-capped_to_32-expired c =
+pub returns-then-min-totals : goal.returns-then-min-totals
+unfolding cap32
+returns-then-min-totals c =
     let s = c.args in
-    let pre = c.requires in
-    let capped-to-32 = c.capped_to_32 in
-    let if1 = c.if-capped_to_32-expired in
-    let read = c.read-sums in
-    let lent-to-expire = c.lent_to_expire-left in
-    let write = c.write in
-    rw write.ensures (noted s.shares s.class s.t.0 s.part.now pre.0 (rw capped-to-32.ensures at if1.true) _ _ read.ensures lent-to-expire.ensures)
+    let x = ap (λ (z : Totals). z.expired) c.read-totals.ensures in
+    let h : cap32 (s.t.0 + 2) < get_or s.part.now 3 0 = omega arith in
+    rw c.write.ensures (noted s.shares s.class s.t.0 s.part.now c.requires.0 h _ _ c.read-totals.ensures c.expire.ensures)
 
-pub returns-then-through-expired : goal.returns-then-through-expired
-returns-then-through-expired c =
+pub returns-then-totals-through : goal.returns-then-totals-through
+unfolding cap32
+returns-then-totals-through c =
     let s = c.args in
-    let pre = c.requires in
-    let capped-to-32 = c.capped_to_32 in
-    waits s.shares s.class s.t.0 s.part.now pre.0 (rw capped-to-32.ensures at c.if-capped_to_32-expired.false) c.if-through-expired.true
+    let x = ap (λ (z : Totals). z.expired) c.read-totals.ensures in
+    let h : get_or s.part.now 3 0 ≤ cap32 (s.t.0 + 2) = omega arith in
+    let l : get_or s.part.now 3 0 < s.t.0 = omega arith in
+    moves_on s.shares s.class s.t.0 s.part.now c.requires.0 h l _ c.expire_pairs.ensures
 
-pub returns : goal.returns
-returns c =
+pub returns-else-totals-through : goal.returns-else-totals-through
+unfolding cap32
+returns-else-totals-through c =
     let s = c.args in
-    let pre = c.requires in
-    let capped-to-32 = c.capped_to_32 in
-    let if1 = c.if-capped_to_32-expired in
-    let if2 = c.if-through-expired in
-    let expire-pairs = c.expire_pairs in
-    moves_on s.shares s.class s.t.0 s.part.now pre.0 (rw capped-to-32.ensures at if1.false) if2.false _ expire-pairs.ensures
+    let x = ap (λ (z : Totals). z.expired) c.read-totals.ensures in
+    let h : get_or s.part.now 3 0 ≤ cap32 (s.t.0 + 2) = omega arith in
+    let l : s.t.0 ≤ get_or s.part.now 3 0 = omega arith in
+    waits s.shares s.class s.t.0 s.part.now c.requires.0 h l

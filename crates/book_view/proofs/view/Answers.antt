@@ -1,17 +1,19 @@
-use Rattle.book_view.proofs.Viewed.{view_some, stranger_viewed, here_inside, here_wide, here_fits, here_viewed}
+use Rattle.book_view.proofs.Viewed.{stranger_viewed, here_inside, here_wide, here_fits, here_viewed}
 use Rattle.book_view.proofs.view.Goals as goal
 
-pub bounds-out-0 : goal.bounds-out-0
-bounds-out-0 c = search view_some
-
-pub returns-then-holders-at : goal.returns-then-holders-at
-returns-then-holders-at c = search stranger_viewed
+pub returns-in_default : goal.returns-in_default
+returns-in_default c = stranger_viewed c.args.who c.requires.0 c.in_default.ensures c.requires.1
 
 pub slice_bounds-put_place-end : goal.slice_bounds-put_place-end
-slice_bounds-put_place-end c = search here_inside
+slice_bounds-put_place-end c =
+    here_inside c.args.who c.requires.0 c.in-Some.ensures c.place_start-start.ensures.0 c.place_width.ensures.0
 
 pub put_place-requires : goal.put_place-requires
-put_place-requires c = search (here_wide, here_fits)
+put_place-requires c = (
+  here_wide c.args.who c.requires.0 c.in-Some.ensures c.place_start-start.ensures.0 c.place_width.ensures.0,
+  here_fits c.args.who c.requires.0 c.in-Some.ensures c.place_start-start.ensures.0 c.place_width.ensures.0 c.requires.1,
+)
 
 pub returns : goal.returns
-returns c = search here_viewed
+returns c =
+    here_viewed c.args.who c.requires.0 c.in-Some.ensures c.place_start-start.ensures.0 c.place_width.ensures.0 c.put_place.ensures

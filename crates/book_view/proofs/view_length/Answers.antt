@@ -1,14 +1,17 @@
 use Rattle.book_view.proofs.Viewed.{stranger_counted, here_inside, here_wide, here_counted}
 use Rattle.book_view.proofs.view_length.Goals as goal
 
-pub returns-then-holders-at : goal.returns-then-holders-at
-returns-then-holders-at c = search stranger_counted
+pub returns-in_default : goal.returns-in_default
+returns-in_default c = stranger_counted c.args.who c.requires c.in_default.ensures
 
 pub slice_bounds-place_length-end : goal.slice_bounds-place_length-end
-slice_bounds-place_length-end c = search here_inside
+slice_bounds-place_length-end c =
+    here_inside c.args.who c.requires c.in-Some.ensures c.place_start-start.ensures.0 c.place_width.ensures.0
 
 pub place_length-requires : goal.place_length-requires
-place_length-requires c = search here_wide
+place_length-requires c =
+    here_wide c.args.who c.requires c.in-Some.ensures c.place_start-start.ensures.0 c.place_width.ensures.0
 
 pub returns : goal.returns
-returns c = search here_counted
+returns c =
+    here_counted c.args.who c.requires c.in-Some.ensures c.place_start-start.ensures.0 c.place_width.ensures.0 c.place_length.ensures

@@ -1,19 +1,19 @@
-use native.Mathlib.Omega.{arith}
-use mathlib.Core.Path.{sym, ◌∙◌}
-use Rattle.decimals.proofs.Reading.{number_none, number_some, read_on, read_end}
+use Rattle.std.proofs.Common.{sym, ◌∙◌, ap, get_or, Some}
+use Rattle.std.proofs.lemmas.List.{take_all}
+use Rattle.decimals.proofs.Reading.{number_none, number_some, read_short}
+use Rattle.decimals.specs.Texts.{with_digit, with_digits}
 use Rattle.decimals.proofs.read.Goals as goal
 
-pub returns-then-text-eq0 : goal.returns-then-text-eq0
-returns-then-text-eq0 c = number_none c.args.text.now c.if-text-eq0.true
+pub returns-then-is_empty : goal.returns-then-is_empty
+returns-then-is_empty c = number_none c.args.text.now (sym c.is_empty.ensures ∙ c.if-is_empty.true)
 
-pub loop-i-init : goal.loop-i-init
-loop-i-init c = (omega arith, number_some c.args.text.now (omega (arith, c.if-text-eq0.false)))
-
-pub loop-i-preserved : goal.loop-i-preserved
-loop-i-preserved c = let l = c.loop-i in
+pub returns-in_err-n : goal.returns-in_err-n
+returns-in_err-n c = let l = c.loop-b in
     let text = c.args.text.now in
-    (omega arith, rw c.add_digit-n.ensures (sym (read_on text l.i l.n (omega arith)) ∙ l.invariant.1))
+    let stop = ap (λ n. with_digit n (get_or text l.b-index 0)) (sym l.invariant) ∙ sym c.joined.ensures ∙ c.in_err-n.was in
+    c.from_residual.ensures ∙ read_short text l.b-index (sym c.is_empty.ensures ∙ c.if-is_empty.false) c.loop-b-test.true stop
 
 pub returns : goal.returns
-returns c = let l = c.loop-i in
-    sym (read_end c.args.text.now l.i l.n (omega arith)) ∙ l.invariant.1
+returns c = let l = c.loop-b in
+    let text = c.args.text.now in
+    l.invariant ∙ ap (with_digits (Some 0)) (take_all l.b-index text c.loop-b-test.false) ∙ number_some text (sym c.is_empty.ensures ∙ c.if-is_empty.false)

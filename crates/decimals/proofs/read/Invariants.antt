@@ -1,12 +1,7 @@
--- The number read so far, with the digits that are left behind it, is the number of the whole text.
-use Prim.Native.Nat.{◌-◌, ◌≤◌}
-use mathlib.Core.Path.{◌≡◌}
-use lib.ListN.{length, drop}
-use Rattle.decimals.specs.Texts.{with_digits, number_of}
+-- The number of the bytes that have been read, of which there is one so far.
+use Rattle.std.proofs.Common.{◌≡◌, take, Some}
+use Rattle.decimals.specs.Texts.{with_digits}
 use Rattle.decimals.proofs.read.Given as goal
 
-abbrev pub invariant-loop-i : goal.invariant-loop-i
-invariant-loop-i l = (l.i ≤ length l.text) × (with_digits l.n (drop l.i l.text) ≡ number_of l.text)
-
-abbrev pub decreases-loop-i : goal.decreases-loop-i
-decreases-loop-i l = length l.text - l.i
+abbrev pub invariant-loop-b : goal.invariant-loop-b
+invariant-loop-b l = Some l.n ≡ with_digits (Some 0) (take l.b-index l.text)

@@ -5,7 +5,7 @@ use Rattle.distinct.proofs.distinct_through.Goals as goal
 
 pub returns : goal.returns
 returns c =
-    let copied = c.copy_words.ensures in
+    let copied = c.copy_from_slice.ensures.after in
     let sorts = c.sort.ensures in
     record {
       value = c.neighbours_differ.ensures ∙ told _ _ sorts.sorts ∙ ap distinct copied;

@@ -8,7 +8,7 @@ pub returns : goal.returns
 returns c =
     let h = c.of-head in
     let some = c.if-head-eq0.false in
-    let cleared = c.clear_words.ensures in
-    let o = c.open-next.ensures in
+    let cleared = c.fill.ensures.after (λ y e. e) in
+    let o = c.open.ensures in
     rw c.lead.ensures
     (drops_all c.args.part.now h.result h.ensures some _ cleared _ (rw o))

@@ -10,8 +10,8 @@ returns-then-wanted-most c =
     let free = c.if-part-bucket.false in
     room_at s _ _ _ free _ c.slots_for-wanted.ensures c.if-wanted-most.true
 
-pub returns : goal.returns
-returns c =
+pub returns-else-wanted-most : goal.returns-else-wanted-most
+returns-else-wanted-most c =
     let s = c.args.part.now in
     let free = c.if-part-bucket.false in
     room_full s _ _ _ free _ c.slots_for-wanted.ensures c.if-wanted-most.false

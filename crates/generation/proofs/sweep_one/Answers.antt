@@ -6,5 +6,5 @@ returns-then-part-through c =
     let before = c.if-part-through.true in
     sweep_drops c.args.part.now _ _ _ before c.drop_all.ensures
 
-pub returns : goal.returns
-returns c = sweep_leaves c.args.part.now _ c.if-part-through.false
+pub returns-else-part-through : goal.returns-else-part-through
+returns-else-part-through c = sweep_leaves c.args.part.now _ c.if-part-through.false

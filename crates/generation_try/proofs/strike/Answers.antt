@@ -10,8 +10,8 @@ contains-known-requires c =
     let part = c.args.part.now in
     (c.requires, sound_bounded 8 24 0 (omega arith) part l sound)
 
-pub room-room-requires : goal.room-room-requires
-room-room-requires c =
+pub room-requires : goal.room-requires
+room-requires c =
     let l = c.if-part-ne-FEW.false in
     let sound = sym c.is_sound.ensures ∙ c.if-not-is_sound.false in
     let part = c.args.part.now in
@@ -22,7 +22,7 @@ insert-requires c =
     let l = c.if-part-ne-FEW.false in
     let sound = sym c.is_sound.ensures ∙ c.if-not-is_sound.false in
     let part = c.args.part.now in
-    let r = c.room-room in
+    let r = c.room in
     let roomy = found_roomy 8 24 0 (omega arith) part l sound _ _ _ r.result c.in-At.is r.ensures in (
       (
         c.requires,

@@ -3,8 +3,8 @@ use mathlib.Core.Path.{sym, ◌∙◌}
 use Rattle.generation.proofs.Looking.{sound_bounded}
 use Rattle.generation_try.proofs.sweep.Goals as goal
 
-pub sweep_one-went-requires : goal.sweep_one-went-requires
-sweep_one-went-requires c =
+pub sweep_one-requires : goal.sweep_one-requires
+sweep_one-requires c =
     let l = c.if-part-ne-FEW.false in
     let sound = sym c.is_sound.ensures ∙ c.if-not-is_sound.false in
     let part = c.args.part.now in

@@ -1,10 +1,6 @@
 -- The registers from r on are still to be written (proofs/Steps, `Headed`).
-use Prim.Native.Nat.{◌-◌}
 use Rattle.opening.proofs.Steps.{Headed}
 use Rattle.opening.proofs.write_registers.Given as goal
 
 abbrev pub invariant-loop-r : goal.invariant-loop-r
 invariant-loop-r l = Headed l.s l.starts l.initial.run l.run l.r
-
-abbrev pub decreases-loop-r : goal.decreases-loop-r
-decreases-loop-r l = l.most - l.r

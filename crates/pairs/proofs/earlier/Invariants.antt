@@ -1,9 +1,5 @@
-use Prim.Native.Nat.{◌-◌}
 use Rattle.pairs.proofs.PairWords.{Walked}
 use Rattle.pairs.proofs.earlier.Given as goal
 
 abbrev pub invariant-loop-i : goal.invariant-loop-i
-invariant-loop-i l = Walked l.n l.second l.cells l.i l.entries
-
-abbrev pub decreases-loop-i : goal.decreases-loop-i
-decreases-loop-i l = l.n - l.i
+invariant-loop-i l = Walked l.pairs l.n l.second l.cells l.i l.entries

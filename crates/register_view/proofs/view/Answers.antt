@@ -1,13 +1,11 @@
-use borrow.Author.Rules.{rules}
-use Rattle.dump.proofs.Writes.{few, may_walk}
-use Rattle.register_view.proofs.Viewed.{view_fits, view_wrote}
+use Rattle.dump.proofs.Writes.{may_walk}
+use Rattle.register_view.proofs.Views.{view_fits, view_wrote}
 use Rattle.register_view.proofs.view.Goals as goal
 
-pub overflow_add-wide : goal.overflow_add-wide
-overflow_add-wide c = let f = (few c.args.u c.args.part.now c.requires.0).slots in search (f, rules)
-
 pub put_rings-requires : goal.put_rings-requires
-put_rings-requires c = search (may_walk, view_fits)
+put_rings-requires c =
+    let s = c.shape_of.ensures in
+    record { laid = may_walk _ _ c.requires.0 s.wide s.ring; fits = view_fits c.requires.0 s.wide s.ring c.requires.1 }
 
 pub returns : goal.returns
-returns c = search view_wrote
+returns c = view_wrote c.requires.0 c.shape_of.ensures.wide c.shape_of.ensures.ring c.put_rings.ensures

@@ -1,13 +1,9 @@
-use borrow.Author.Rules.{rules}
-use Rattle.dump.proofs.Writes.{few, may_walk}
-use Rattle.register_view.proofs.Viewed.{view_counted}
+use Rattle.dump.proofs.Writes.{may_walk}
+use Rattle.register_view.proofs.Views.{view_counted}
 use Rattle.register_view.proofs.view_length.Goals as goal
 
-pub overflow_add-wide : goal.overflow_add-wide
-overflow_add-wide c = let f = (few c.args.u c.args.part.now c.requires).slots in search (f, rules)
-
 pub held_in-requires : goal.held_in-requires
-held_in-requires c = search may_walk
+held_in-requires c = may_walk _ _ c.requires c.shape_of.ensures.wide c.shape_of.ensures.ring
 
 pub returns : goal.returns
-returns c = search view_counted
+returns c = view_counted c.requires c.shape_of.ensures.wide c.shape_of.ensures.ring c.held_in.ensures.value

@@ -8,7 +8,7 @@ pub restore_class-peers-requires : goal.restore_class-peers-requires
 restore_class-peers-requires c =
     let restore_class = c.restore_class-feeders in
     let a = restore_class.ensures in
-    ((a.0, c.requires.0.1), rw a.1.0 c.requires.1.peers)
+    (a.0, rw a.1.0 c.requires.1.peers)
 
 pub restore_class-own-requires : goal.restore_class-own-requires
 restore_class-own-requires c =
@@ -16,12 +16,12 @@ restore_class-own-requires c =
     let restore-class2 = c.restore_class-peers in
     let a = restore-class2.ensures in
     let b = restore_class.ensures in
-    ((a.0, c.requires.0.1), rw (a.1.0, b.1.0) c.requires.1.own)
+    (a.0, rw (a.1.0, b.1.0) c.requires.1.own)
 
 pub shape_of-run : goal.shape_of-run
 shape_of-run c =
     let restore-class3 = c.restore_class-own in
-    restore-class3.ensures.0.long ∙ sym c.requires.0.0.long
+    restore-class3.ensures.0.long ∙ sym c.requires.0.long
 
 pub returns : goal.returns
 returns c =
@@ -34,6 +34,6 @@ returns c =
     let y = restore-class2.ensures in
     let z = restore_class.ensures in (
       x.0,
-      dump_acts c.args.s c.args.r (dump_at (words_of c.args.bytes.now)) c.args.run.now _ _ _ _ _ _ _
+      dump_acts c.args.on.now.s c.args.on.now.r (dump_at (words_of c.args.bytes.now)) c.args.run.now _ _ _ _ _ _ _
           (rw floor_word.ensures at raise-to-dumped.ensures.1) z.1.1 (rw z.1.0 at y.1.1) (rw (y.1.0, z.1.0) at x.1.1),
     )

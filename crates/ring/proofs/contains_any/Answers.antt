@@ -1,23 +1,36 @@
-use mathlib.Core.Path.{refl}
+use Rattle.ring.proofs.Chunks.{from_start, chunk_bounded, chunk_reads, below, from_next, from_end}
 use Rattle.ring.proofs.Finding.{look_start, look_on, look_end}
-use Rattle.ring.proofs.Positions.{place_bounded, place_reads}
 use Rattle.ring.proofs.contains_any.Goals as goal
 
-pub loop-i-init : goal.loop-i-init
-loop-i-init c = look_start _ _ _ _
+pub loop-part-init : goal.loop-part-init
+loop-part-init c =
+    let made = c.chunks_exact-part-items.ensures in
+    rw (c.into_iter-part-iterator.ensures.into_iter_gives, made.rest) (record {
+      i = 0;
+      from = from_start _ _ _ _ made.size c.requires.1.sized.long;
+      looked = look_start _ _ _ _;
+    })
 
-pub contains-held-requires : goal.contains-held-requires
-contains-held-requires c =
-    let h = c.loop-i-test.true in
-    (c.requires.0, place_bounded _ _ _ h _ _ c.start_of-a.ensures refl c.args.words.now c.requires.1)
+pub contains-any-requires : goal.contains-any-requires
+contains-any-requires c =
+    let l = c.loop-part.invariant in
+    (c.requires.0, chunk_bounded _ _ _ _ _ _ l.from c.in-Some.part.now c.next.new.self.rest.now c.in-Some.ensures.steps.1 c.requires.1)
 
-pub loop-i-preserved : goal.loop-i-preserved
-loop-i-preserved c =
-    let l = c.loop-i in
+pub loop-part-preserved : goal.loop-part-preserved
+loop-part-preserved c =
+    let l = c.loop-part.invariant in
+    let s = c.in-Some.ensures.steps in
+    let x = c.in-Some.part.now in
+    let q = c.next.new.self.rest.now in
     let a = c.args in
-    let h = c.loop-i-test.true in
-    let t = c.contains-held.ensures a.slots a.ring l.i in
-    look_on _ _ _ _ _ _ l.invariant h _ (place_reads _ _ _ h _ _ c.start_of-a.ensures refl t)
+    let t = c.contains-any.ensures a.shape.slots a.shape.ring l.i in
+    record {
+      i = _;
+      from = from_next _ _ _ _ _ _ l.from x q s.1 _ s.0;
+      looked = look_on _ _ _ _ _ _ l.looked (below _ _ _ _ _ _ l.from x q s.1) _ (chunk_reads _ _ _ _ _ _ l.from x q s.1 t);
+    }
 
 pub returns : goal.returns
-returns c = let l = c.loop-i in look_end _ _ _ _ _ _ l.invariant c.loop-i-test.false
+returns c =
+    let l = c.loop-part.invariant in
+    look_end _ _ _ _ _ _ l.looked (from_end _ _ _ _ _ _ l.from c.in-None.ensures.steps.1.0)

@@ -1,11 +1,15 @@
-use Rattle.strikes.proofs.OnClass.{totals_refused, totals_there, totals_told}
+use Rattle.strikes.specs.Calls.{totals_heard}
+use Rattle.strikes.proofs.OnClass.{class_unlisted, totals_refused, totals_there, totals_told}
 use Rattle.strikes.proofs.class_totals.Goals as goal
 
-pub returns-then-at-ne0 : goal.returns-then-at-ne0
-returns-then-at-ne0 c = search totals_refused
+pub returns-in_err-named : goal.returns-in_err-named
+returns-in_err-named c = class_unlisted totals_heard _ _ _ _ c.from_residual.ensures.1 _ c.in_err-named.ensures
 
-pub held_of-t-requires : goal.held_of-t-requires
-held_of-t-requires c = search totals_there
+pub returns-in_err-at : goal.returns-in_err-at
+returns-in_err-at c = totals_refused totals_heard _ _ _ _ c.from_residual-in_err-at.ensures.1 _ _ c.in_ok-named.ensures c.in_err-at.ensures
+
+pub held_of-requires : goal.held_of-requires
+held_of-requires c = totals_there c.in_ok-at.ensures
 
 pub returns : goal.returns
-returns c = search totals_told
+returns c = totals_told c.in_ok-at.ensures _ c.in_ok-named.ensures search

@@ -1,14 +1,16 @@
+use mathlib.Core.Path.{refl}
+use Rattle.model.specs.Calls.{codes_fit}
+use Rattle.strikes.specs.Calls.{done}
 use Rattle.strikes.proofs.OnWhole.{book_refused, front_there}
 use Rattle.strikes.proofs.Runs.{closes, was_closed}
-use Rattle.model.specs.Calls.{codes_fit}
 use Rattle.strikes.proofs.close.Goals as goal
 
-pub returns-then-e-ne0 : goal.returns-then-e-ne0
+pub returns-in_err-vet : goal.returns-in_err-vet
 unfolding codes_fit
-returns-then-e-ne0 c = search (book_refused, closes)
+returns-in_err-vet c = book_refused done _ _ _ _ _ c.from_residual.ensures.1 closes refl c.in_err-vet.ensures
 
 pub slice_bounds-close-end : goal.slice_bounds-close-end
-slice_bounds-close-end c = search front_there
+slice_bounds-close-end c = front_there c.in_ok-vet.ensures
 
 pub returns : goal.returns
-returns c = search was_closed
+returns c = was_closed c.in_ok-vet.ensures search

@@ -1,18 +1,20 @@
+use mathlib.Core.Path.{refl}
+use Rattle.model.specs.Answer.{Dumped}
 use Rattle.strikes.proofs.OnRegister.{words_there}
 use Rattle.strikes.proofs.OnOutput.{dump_shut, dump_turned_down, output_holds, dump_told}
 use Rattle.strikes.proofs.dump.Goals as goal
 
-pub returns-then-at-ne0 : goal.returns-then-at-ne0
-returns-then-at-ne0 c = search dump_shut
+pub returns-in_err-at : goal.returns-in_err-at
+returns-in_err-at c = dump_shut _ _ _ _ Dumped _ _ c.from_residual.ensures.1 c.in_err-at.ensures
 
-pub dump_refused-refusal-requires : goal.dump_refused-refusal-requires
-dump_refused-refusal-requires c = search words_there
+pub may_dump-requires : goal.may_dump-requires
+may_dump-requires c = words_there c.in_ok-at.ensures
 
-pub returns-then-refusal-ne0 : goal.returns-then-refusal-ne0
-returns-then-refusal-ne0 c = search dump_turned_down
+pub returns-in_err-may_dump : goal.returns-in_err-may_dump
+returns-in_err-may_dump c = dump_turned_down _ _ _ _ c.in_ok-at.ensures c.in_err-may_dump.ensures Dumped _ _ c.from_residual-in_err-may_dump.ensures.1 refl
 
-pub dump-long-requires : goal.dump-long-requires
-dump-long-requires c = (search words_there, output_holds _ c.dump_refused-refusal.ensures c.if-refusal-ne0.false)
+pub dump-requires : goal.dump-requires
+dump-requires c = (words_there c.in_ok-at.ensures, output_holds _ c.in_ok-may_dump.ensures refl)
 
 pub returns : goal.returns
-returns c = search dump_told
+returns c = dump_told _ _ _ _ c.in_ok-at.ensures c.in_ok-may_dump.ensures refl search

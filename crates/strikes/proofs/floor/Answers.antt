@@ -1,20 +1,16 @@
 use mathlib.Core.Path.{refl}
-use Rattle.model.specs.Calls.{Floor, floor_answer, deed_fits, deed_refusals, done_on}
-use Rattle.strikes.proofs.Deeds.{Tells}
-use Rattle.strikes.proofs.OnRegister.{read_refused, words_least}
-use Rattle.strikes.proofs.Deeds.{answered}
+use Rattle.model.specs.Calls.{deed_fits}
+use Rattle.strikes.specs.Calls.{floor_heard}
+use Rattle.strikes.proofs.OnRegister.{deed_refused, words_least}
+use Rattle.strikes.proofs.Deeds.{told_by, tells_floor}
 use Rattle.strikes.proofs.floor.Goals as goal
 
-tells : Tells Floor (λ v. v) (λ u reg. floor_answer reg.floor)
-unfolding deed_fits deed_refusals done_on
-tells = record { fits = refl; never = λ reg. refl; says = λ s r t. refl }
-
-pub returns-then-at-ne0 : goal.returns-then-at-ne0
+pub returns-in_err-at : goal.returns-in_err-at
 unfolding deed_fits
-returns-then-at-ne0 c = search read_refused
+returns-in_err-at c = (deed_refused floor_heard _ _ _ _ _ _ c.from_residual.ensures.1 refl c.in_err-at.ensures).answer
 
 pub floor-requires : goal.floor-requires
-floor-requires c = search words_least
+floor-requires c = words_least c.in_ok-at.ensures
 
 pub returns : goal.returns
-returns c = search (answered, tells)
+returns c = told_by c.in_ok-at.ensures tells_floor (c.floor.ensures.register_reads _)

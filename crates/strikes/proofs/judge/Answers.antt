@@ -1,14 +1,20 @@
-use Rattle.strikes.proofs.OnRegister.{told_refused, words_there}
-use Rattle.strikes.proofs.Deeds.{was_judged}
+use Rattle.model.specs.Answer.{Said}
 use Rattle.model.specs.Calls.{deed_fits}
+use Rattle.model.proofs.Refused.{listed_ok}
+use Rattle.strikes.proofs.OnRegister.{code_refused, deed_refused, words_there}
+use Rattle.strikes.proofs.Deeds.{was_judged}
 use Rattle.strikes.proofs.judge.Goals as goal
 
-pub returns-then-at-ne0 : goal.returns-then-at-ne0
+pub returns-in_err-ask : goal.returns-in_err-ask
 unfolding deed_fits
-returns-then-at-ne0 c = search told_refused
+returns-in_err-ask c = code_refused Said _ _ _ _ _ _ c.from_residual.ensures.1 _ c.in_err-ask.ensures
+
+pub returns-in_err-at : goal.returns-in_err-at
+unfolding deed_fits
+returns-in_err-at c = deed_refused Said _ _ _ _ _ _ c.from_residual-in_err-at.ensures.1 (listed_ok _ c.in_ok-ask.ensures).0 c.in_err-at.ensures
 
 pub judge-requires : goal.judge-requires
-judge-requires c = search words_there
+judge-requires c = words_there c.in_ok-at.ensures
 
 pub returns : goal.returns
-returns c = search was_judged
+returns c = was_judged _ _ _ _ _ _ _ _ c.in_ok-at.ensures c.in_ok-ask.ensures search

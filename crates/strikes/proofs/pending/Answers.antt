@@ -1,20 +1,19 @@
 use mathlib.Core.Path.{refl}
 use Rattle.model.specs.Calls.{Pending, yes_no, deed_fits, deed_refusals, done_on}
-use Rattle.strikes.proofs.Deeds.{Tells}
-use Rattle.strikes.proofs.OnRegister.{read_refused, words_least}
-use Rattle.strikes.proofs.Deeds.{whether}
+use Rattle.strikes.proofs.Deeds.{Tells, told_by}
+use Rattle.strikes.proofs.OnRegister.{deed_refused, words_least}
 use Rattle.strikes.proofs.pending.Goals as goal
 
 tells : Tells Pending yes_no (λ u reg. reg.pending)
 unfolding deed_fits deed_refusals done_on
 tells = record { fits = refl; never = λ reg. refl; says = λ s r t. refl }
 
-pub returns-then-at-ne0 : goal.returns-then-at-ne0
+pub returns-in_err-at : goal.returns-in_err-at
 unfolding deed_fits
-returns-then-at-ne0 c = search read_refused
+returns-in_err-at c = (deed_refused yes_no _ _ _ _ _ _ c.from_residual.ensures.1 refl c.in_err-at.ensures).answer
 
 pub is_pending-requires : goal.is_pending-requires
-is_pending-requires c = search words_least
+is_pending-requires c = words_least c.in_ok-at.ensures
 
 pub returns : goal.returns
-returns c = search (whether, tells)
+returns c = told_by c.in_ok-at.ensures tells (c.is_pending.ensures.register_reads _)

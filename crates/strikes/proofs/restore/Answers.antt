@@ -1,24 +1,30 @@
-use Rattle.strikes.proofs.Entering.{register_settings}
-use Rattle.strikes.proofs.OnWhole.{run_refused, run_there, register_there}
-use Rattle.strikes.proofs.OnRestore.{restore_cut, whole_dump, within_bytes, was_restored}
+use mathlib.Core.Path.{refl}
 use Rattle.model.specs.Calls.{deed_fits}
+use Rattle.strikes.specs.Calls.{restored_heard}
+use Rattle.strikes.proofs.Entering.{long_settings}
+use Rattle.strikes.proofs.OnRegister.{deed_refused}
+use Rattle.strikes.proofs.OnWhole.{run_there, register_there}
+use Rattle.strikes.proofs.OnRestore.{restore_cut, length_read, whole_dump, within_bytes, was_restored}
 use Rattle.strikes.proofs.restore.Goals as goal
 
-pub returns-then-e-ne0 : goal.returns-then-e-ne0
+pub returns-in_err-need : goal.returns-in_err-need
 unfolding deed_fits
-returns-then-e-ne0 c = search run_refused
+returns-in_err-need c = deed_refused restored_heard _ _ _ _ _ _ c.from_residual.ensures.1 refl c.in_err-need.ensures
 
-pub returns-in_default : goal.returns-in_default
-returns-in_default c = search restore_cut
+pub returns-in_err-long : goal.returns-in_err-long
+returns-in_err-long c = restore_cut restored_heard c.in_ok-need.ensures _ _ c.from_residual-in_err-long.ensures.1 _ c.read_lengths.ensures c.in_err-long.ensures.value
 
 pub settings_of-s-requires : goal.settings_of-s-requires
-settings_of-s-requires c = search register_settings
+settings_of-s-requires c = long_settings c.in_ok-need.ensures.enters
 
 pub restore-whole-requires : goal.restore-whole-requires
-restore-whole-requires c = search (run_there, register_there, whole_dump)
+restore-whole-requires c =
+    let by = c.in_ok-need.ensures in
+    let read = c.settings_of-s.ensures in
+    ((run_there by read, register_there by read), whole_dump _ c.read_lengths.ensures (length_read _ c.in_ok-long.ensures.value))
 
 pub told_restored-requires : goal.told_restored-requires
-told_restored-requires c = search within_bytes
+told_restored-requires c = within_bytes _ c.read_lengths.ensures (length_read _ c.in_ok-long.ensures.value)
 
 pub returns : goal.returns
-returns c = search was_restored
+returns c = was_restored _ c.read_lengths.ensures (length_read _ c.in_ok-long.ensures.value) c.in_ok-need.ensures c.settings_of-s.ensures _ c.told_restored.ensures search

@@ -1,21 +1,16 @@
 use mathlib.Core.Path.{refl}
-use Rattle.model.specs.Calls.{SweptBucket, deed_fits, deed_refusals, done_on}
-use Rattle.register.specs.Rules.{swept_answer}
-use Rattle.strikes.proofs.Deeds.{Tells}
-use Rattle.strikes.proofs.OnRegister.{read_refused, words_least}
-use Rattle.strikes.proofs.Deeds.{answered}
+use Rattle.model.specs.Calls.{deed_fits}
+use Rattle.strikes.specs.Calls.{swept_heard}
+use Rattle.strikes.proofs.OnRegister.{deed_refused, words_least}
+use Rattle.strikes.proofs.Deeds.{told_by, tells_swept}
 use Rattle.strikes.proofs.swept.Goals as goal
 
-tells : Tells SweptBucket (λ v. v) swept_answer
-unfolding deed_fits deed_refusals done_on
-tells = record { fits = refl; never = λ reg. refl; says = λ s r t. refl }
-
-pub returns-then-at-ne0 : goal.returns-then-at-ne0
+pub returns-in_err-at : goal.returns-in_err-at
 unfolding deed_fits
-returns-then-at-ne0 c = search read_refused
+returns-in_err-at c = (deed_refused swept_heard _ _ _ _ _ _ c.from_residual.ensures.1 refl c.in_err-at.ensures).answer
 
 pub swept-requires : goal.swept-requires
-swept-requires c = search words_least
+swept-requires c = words_least c.in_ok-at.ensures
 
 pub returns : goal.returns
-returns c = search (answered, tells)
+returns c = told_by c.in_ok-at.ensures tells_swept (c.swept.ensures.register_reads _)

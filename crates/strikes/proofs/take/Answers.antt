@@ -1,18 +1,25 @@
-use Rattle.strikes.proofs.Entering.{register_settings}
-use Rattle.strikes.proofs.OnWhole.{run_refused, run_there, register_there}
-use Rattle.strikes.proofs.Runs.{was_taken}
+use Rattle.model.specs.Answer.{Said}
 use Rattle.model.specs.Calls.{deed_fits}
+use Rattle.model.proofs.Refused.{listed_ok}
+use Rattle.strikes.proofs.Entering.{long_settings}
+use Rattle.strikes.proofs.OnRegister.{code_refused, deed_refused}
+use Rattle.strikes.proofs.OnWhole.{run_there, register_there}
+use Rattle.strikes.proofs.Runs.{was_taken}
 use Rattle.strikes.proofs.take.Goals as goal
 
-pub returns-then-e-ne0 : goal.returns-then-e-ne0
+pub returns-in_err-ask : goal.returns-in_err-ask
 unfolding deed_fits
-returns-then-e-ne0 c = search run_refused
+returns-in_err-ask c = code_refused Said _ _ _ _ _ _ c.from_residual.ensures.1 _ c.in_err-ask.ensures
+
+pub returns-in_err-need : goal.returns-in_err-need
+unfolding deed_fits
+returns-in_err-need c = deed_refused Said _ _ _ _ _ _ c.from_residual-in_err-need.ensures.1 (listed_ok _ c.in_ok-ask.ensures).0 c.in_err-need.ensures
 
 pub settings_of-s-requires : goal.settings_of-s-requires
-settings_of-s-requires c = search register_settings
+settings_of-s-requires c = long_settings c.in_ok-need.ensures.enters
 
 pub take-requires : goal.take-requires
-take-requires c = search (run_there, register_there)
+take-requires c = let by = c.in_ok-need.ensures in let read = c.settings_of-s.ensures in (run_there by read, register_there by read)
 
 pub returns : goal.returns
-returns c = search was_taken
+returns c = was_taken _ _ _ _ _ _ _ _ _ c.in_ok-need.ensures c.settings_of-s.ensures c.in_ok-ask.ensures search

@@ -1,18 +1,22 @@
+use Rattle.model.specs.Answer.{Viewed}
 use Rattle.strikes.proofs.OnClass.{deliverer_lies}
-use Rattle.strikes.proofs.OnOutput.{deliverer_shut, deliverer_short, deliverer_holds, deliverer_told}
+use Rattle.strikes.proofs.OnOutput.{viewer_unlisted, deliverer_shut, deliverer_short, deliverer_holds, deliverer_told}
 use Rattle.strikes.proofs.view_deliverer.Goals as goal
 
-pub returns-then-at-ne0 : goal.returns-then-at-ne0
-returns-then-at-ne0 c = search deliverer_shut
+pub returns-in_err-who : goal.returns-in_err-who
+returns-in_err-who c = viewer_unlisted _ _ _ _ _ Viewed _ _ c.from_residual.ensures.1 c.in_err-who.ensures
+
+pub returns-in_err-at : goal.returns-in_err-at
+returns-in_err-at c = deliverer_shut _ _ _ _ _ Viewed _ _ c.from_residual-in_err-at.ensures.1 c.in_ok-who.ensures c.in_err-at.ensures
 
 pub view_length-long-requires : goal.view_length-long-requires
-view_length-long-requires c = search deliverer_lies
+view_length-long-requires c = deliverer_lies c.in_ok-at.ensures _ c.class_of.ensures
 
 pub returns-then-out-long : goal.returns-then-out-long
-returns-then-out-long c = search deliverer_short
+returns-then-out-long c = deliverer_short _ _ _ _ _ c.in_ok-who.ensures c.in_ok-at.ensures c.class_of.ensures c.view_length-long.ensures c.if-out-long.true
 
-pub view-n-requires : goal.view-n-requires
-view-n-requires c = (search deliverer_lies, deliverer_holds _ c.view_length-long.ensures c.if-out-long.false)
+pub view-requires : goal.view-requires
+view-requires c = (deliverer_lies c.in_ok-at.ensures _ c.class_of.ensures, deliverer_holds _ c.view_length-long.ensures c.if-out-long.false)
 
 pub returns : goal.returns
-returns c = search deliverer_told
+returns c = deliverer_told _ _ _ _ _ c.in_ok-who.ensures c.in_ok-at.ensures c.class_of.ensures c.view_length-long.ensures c.if-out-long.false search

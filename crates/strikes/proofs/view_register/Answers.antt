@@ -1,18 +1,19 @@
+use Rattle.model.specs.Answer.{Viewed}
 use Rattle.strikes.proofs.OnRegister.{words_there}
 use Rattle.strikes.proofs.OnOutput.{view_shut, view_short, view_holds, view_told}
 use Rattle.strikes.proofs.view_register.Goals as goal
 
-pub returns-then-at-ne0 : goal.returns-then-at-ne0
-returns-then-at-ne0 c = search view_shut
+pub returns-in_err-at : goal.returns-in_err-at
+returns-in_err-at c = view_shut _ _ _ _ Viewed _ _ c.from_residual.ensures.1 c.in_err-at.ensures
 
 pub view_length-long-requires : goal.view_length-long-requires
-view_length-long-requires c = search words_there
+view_length-long-requires c = words_there c.in_ok-at.ensures
 
 pub returns-then-out-long : goal.returns-then-out-long
-returns-then-out-long c = search view_short
+returns-then-out-long c = view_short _ _ _ _ c.in_ok-at.ensures c.view_length-long.ensures c.if-out-long.true
 
-pub view-n-requires : goal.view-n-requires
-view-n-requires c = (search words_there, view_holds _ c.view_length-long.ensures c.if-out-long.false)
+pub view-requires : goal.view-requires
+view-requires c = (words_there c.in_ok-at.ensures, view_holds _ c.view_length-long.ensures c.if-out-long.false)
 
 pub returns : goal.returns
-returns c = search view_told
+returns c = view_told _ _ _ _ c.in_ok-at.ensures c.view_length-long.ensures c.if-out-long.false search

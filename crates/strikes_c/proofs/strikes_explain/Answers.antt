@@ -1,10 +1,12 @@
-use Rattle.strikes_c.proofs.Sending.{read_out}
+use mathlib.Core.Path.{refl}
+use Rattle.model.specs.Codes.{answer_number, answer_values}
+use Rattle.strikes_c.specs.Out.{value_out}
+use Rattle.strikes_c.proofs.Sending.{read_out, read_refused}
 use Rattle.strikes_c.proofs.strikes_explain.Goals as goal
 
-pub returns : goal.returns
-returns c =
-    let explain = c.explain in
-    let send = c.send-sent in
-    let first-or = c.first_or in
-    let second-or = c.second_or in
-    read_out _ _ _ _ _ send.ensures _ _ explain.ensures (rw (first-or.ensures, second-or.ensures, c.third_or.ensures))
+pub returns-in-Ok : goal.returns-in-Ok
+unfolding answer_number answer_values value_out
+returns-in-Ok c = read_out refl (rw (c.reason_number.ensures, c.reason_class.ensures, c.from.ensures, c.reason_verdict.ensures) refl) c.in-Ok.ensures
+
+pub returns-in-Err : goal.returns-in-Err
+returns-in-Err c = read_refused c.from-in-Err.ensures _ c.in-Err.ensures

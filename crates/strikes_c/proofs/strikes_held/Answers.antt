@@ -1,8 +1,12 @@
-use Prim.Native.Nat.{ℕ}
-use mathlib.Core.List.{[], ◌∷◌}
-use mathlib.Core.Path.{ap}
-use Rattle.strikes_c.proofs.Sending.{read_out}
+use mathlib.Core.Path.{refl}
+use Rattle.model.specs.Codes.{answer_number, answer_values}
+use Rattle.strikes_c.specs.Out.{value_out}
+use Rattle.strikes_c.proofs.Sending.{read_out, read_refused}
 use Rattle.strikes_c.proofs.strikes_held.Goals as goal
 
-pub returns : goal.returns
-returns c = read_out _ _ _ _ _ c.send-sent.ensures _ _ c.held.ensures (ap (λ (v : ℕ). v ∷ []) c.first_or.ensures)
+pub returns-in-Ok : goal.returns-in-Ok
+unfolding answer_number answer_values value_out
+returns-in-Ok c = read_out refl refl c.in-Ok.ensures
+
+pub returns-in-Err : goal.returns-in-Err
+returns-in-Err c = read_refused c.from.ensures _ c.in-Err.ensures

@@ -1,8 +1,12 @@
-use Prim.Native.Nat.{ℕ}
-use mathlib.Core.List.{[], ◌∷◌}
-use mathlib.Core.Path.{ap}
-use Rattle.strikes_c.proofs.Sending.{told_out}
+use mathlib.Core.Path.{refl}
+use Rattle.model.specs.Codes.{answer_number, answer_values}
+use Rattle.strikes_c.specs.Out.{value_out}
+use Rattle.strikes_c.proofs.Sending.{told_out, told_refused}
 use Rattle.strikes_c.proofs.strikes_judge.Goals as goal
 
-pub returns : goal.returns
-returns c = told_out _ _ _ _ _ c.send-sent.ensures _ _ _ c.judge.ensures (ap (λ (v : ℕ). v ∷ []) c.first_or.ensures)
+pub returns-in-Ok : goal.returns-in-Ok
+unfolding answer_number answer_values value_out
+returns-in-Ok c = told_out refl (rw c.from.ensures refl) c.in-Ok.ensures
+
+pub returns-in-Err : goal.returns-in-Err
+returns-in-Err c = told_refused c.from-in-Err.ensures _ c.in-Err.ensures

@@ -1,8 +1,8 @@
-use Prim.Native.Nat.{ℕ}
-use mathlib.Core.List.{[], ◌∷◌}
-use mathlib.Core.Path.{ap}
-use Rattle.strikes_c.proofs.Sending.{read_out}
+use Rattle.strikes_c.proofs.Sending.{read_out, read_refused, yes_number, yes_returns}
 use Rattle.strikes_c.proofs.strikes_pending.Goals as goal
 
-pub returns : goal.returns
-returns c = read_out _ _ _ _ _ c.send-sent.ensures _ _ c.pending.ensures (ap (λ (v : ℕ). v ∷ []) c.first_or.ensures)
+pub returns-in-Ok : goal.returns-in-Ok
+returns-in-Ok c = read_out (yes_returns _) (yes_number _ _ _ c.from.ensures) c.in-Ok.ensures
+
+pub returns-in-Err : goal.returns-in-Err
+returns-in-Err c = read_refused c.from-in-Err.ensures _ c.in-Err.ensures

@@ -1,6 +1,5 @@
-use mathlib.Core.Path.{refl}
-use Rattle.strikes_c.proofs.Sending.{told_out}
+use Rattle.strikes_c.proofs.Sending.{done_out}
 use Rattle.strikes_c.proofs.strikes_set_limits.Goals as goal
 
 pub returns : goal.returns
-returns c = told_out _ _ _ _ _ c.send-sent.ensures _ _ _ c.set_limits.ensures refl
+returns c = done_out _ c.status.ensures c.set_limits.ensures

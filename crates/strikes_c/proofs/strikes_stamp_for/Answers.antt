@@ -1,9 +1,17 @@
-use Rattle.strikes_c.proofs.Sending.{read_out}
+use mathlib.Core.Path.{refl}
+use Rattle.model.specs.Codes.{answer_number, answer_values}
+use Rattle.strikes.specs.Calls.{stamp_heard}
+use Rattle.strikes_c.specs.Out.{value_out}
+use Rattle.strikes_c.proofs.Sending.{read_case, read_refused}
 use Rattle.strikes_c.proofs.strikes_stamp_for.Goals as goal
 
-pub returns : goal.returns
-returns c =
-    let stamp_for = c.stamp_for in
-    let send = c.send-sent in
-    let first-or = c.first_or in
-    read_out _ _ _ _ _ send.ensures _ _ stamp_for.ensures (rw (first-or.ensures, c.second_or.ensures))
+pub returns-in-Ok-Some : goal.returns-in-Ok-Some
+unfolding answer_number answer_values value_out
+returns-in-Ok-Some c = read_case stamp_heard _ c.in-Ok-Some.field-0-is refl refl c.in-Ok-Some.ensures
+
+pub returns-in-Ok-None : goal.returns-in-Ok-None
+unfolding answer_number answer_values value_out
+returns-in-Ok-None c = read_case stamp_heard _ c.in-Ok-None.field-0-is refl refl c.in-Ok-None.ensures
+
+pub returns-in-Err : goal.returns-in-Err
+returns-in-Err c = read_refused c.from.ensures _ c.in-Err.ensures

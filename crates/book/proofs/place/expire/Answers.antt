@@ -1,10 +1,6 @@
-use Rattle.book.proofs.PlaceTurns.{place_expires, tail_long, tail_sum, went}
-use lib.ListN.{length-set}
+use Rattle.book.proofs.PlaceTurns.{place_expires, entries_kept, tail_long, went}
 use native.Mathlib.Omega.{arith}
 use Rattle.book.proofs.place.expire.Goals as goal
-
-pub earlier-passed-requires : goal.earlier-passed-requires
-earlier-passed-requires c = let ws = c.args.place.now in let w = c.requires.0 in (w.few, tail_long ws w, tail_sum ws w)
 
 pub remove-requires : goal.remove-requires
 remove-requires c =
@@ -19,21 +15,13 @@ pub overflow_sub-place : goal.overflow_sub-place
 overflow_sub-place c =
     let s = c.args in
     let earlier = c.earlier-passed in
+    let l = c.requires.0.long in
+    let k = entries_kept s.place.now c.remove.new.cells (omega arith) in
     let g = went s.place.now s.t _ earlier.ensures in
     omega arith
 
-pub overflow_sub-place-2 : goal.overflow_sub-place-2
-overflow_sub-place-2 c =
-    let s = c.args in
-    let earlier = c.earlier-passed in
-    let g = went s.place.now s.t _ earlier.ensures in
-    omega arith
-
-pub bounds-place-3-2 : goal.bounds-place-3-2
-bounds-place-3-2 c = simp length-set (omega arith)
-
-pub overflow_sub-result : goal.overflow_sub-result
-overflow_sub-result c =
+pub overflow_sub-left : goal.overflow_sub-left
+overflow_sub-left c =
     let s = c.args in
     let earlier = c.earlier-passed in
     let g = went s.place.now s.t _ earlier.ensures in
@@ -42,4 +30,5 @@ overflow_sub-result c =
 pub returns : goal.returns
 returns c = let s = c.args in
     let g = went s.place.now s.t _ c.earlier-passed.ensures in
-    place_expires s.place.now _ s.t _ _ g.pairs g.entries c.remove.ensures
+    let l = c.requires.0.long in
+    rw (entries_kept s.place.now _ (omega arith)) (place_expires s.place.now _ s.t _ _ g.pairs g.entries c.remove.ensures)

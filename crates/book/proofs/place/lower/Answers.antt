@@ -1,11 +1,12 @@
-use Rattle.book.proofs.PlaceTurns.{place_lowers, tail_is, tail_long}
+use Rattle.book.proofs.PlaceTurns.{place_lowers, count_word, entries_kept}
+use native.Mathlib.Omega.{arith}
 use Rattle.book.proofs.place.lower.Goals as goal
 
 pub lower-requires : goal.lower-requires
-lower-requires c = let ws = c.args.place.now in let w = c.requires in (w.0.few, w.1, tail_long ws w.0, rw (tail_is ws) w.2)
+lower-requires c = let w = c.requires in let p = count_word c.args.place.now c.args.k w.0 w.1 in (p.0, rw p.1 w.2)
 
 pub returns : goal.returns
 returns c =
-    let s = c.args in
-    let lower = c.lower in
-    place_lowers s.place.now _ s.k lower.ensures
+    let ws = c.args.place.now in
+    let l = c.requires.0.long in
+    rw (entries_kept ws _ (omega arith)) (place_lowers ws _ c.args.k (c.lower.ensures _))

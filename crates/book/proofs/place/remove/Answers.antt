@@ -1,13 +1,10 @@
-use Rattle.book.proofs.PlaceTurns.{place_removes}
-use lib.ListN.{length-set}
+use Rattle.book.proofs.PlaceTurns.{place_removes, entries_kept, pairs_kept}
 use native.Mathlib.Omega.{arith}
 use Rattle.book.proofs.place.remove.Goals as goal
-
-pub bounds-place-3-2 : goal.bounds-place-3-2
-bounds-place-3-2 c = simp length-set (omega arith)
 
 pub returns : goal.returns
 returns c =
     let s = c.args in
-    let remove = c.remove in
-    place_removes s.place.now _ s.k remove.ensures
+    let ws = s.place.now in
+    let l = c.requires.0.long in
+    rw (pairs_kept ws _ _ (omega arith), entries_kept ws _ (omega arith)) (place_removes ws _ s.k c.remove.ensures)

@@ -1,47 +1,34 @@
-use mathlib.Core.Path.{refl}
-use native.Mathlib.Omega.{arith}
-use Rattle.numbers.proofs.Placing.{ends_at}
-use Rattle.book_sound.proofs.Twice.{read_past, apart_none, apart_met, apart_on}
-use Rattle.book_sound.proofs.PlaceStarts.{read_none, read_one}
+use mathlib.Core.Path.{refl, ◌∙◌}
+use Rattle.book_sound.proofs.Chunks.{room_for, cut_off}
+use Rattle.book_sound.proofs.Twice.{apart_start, apart_end, apart_none, apart_met, apart_on}
 use Rattle.book_sound.proofs.apart.distinct.Goals as goal
 
-pub loop-i-init : goal.loop-i-init
-loop-i-init c = record { within = omega arith; goes = refl }
+pub loop-place-init : goal.loop-place-init
+loop-place-init c =
+    let items = c.chunks_exact-place-items.ensures in
+    rw (c.into_iter-place-iterator.ensures.into_iter_gives, items.rest) (apart_start _ _ _ (items.size ∙ c.place_width-width.ensures.0), refl)
 
-pub returns-then-not-used : goal.returns-then-not-used
-returns-then-not-used c =
-    let p = c.args in
-    let l = c.loop-i in
-    let h = c.loop-i-test.true in
-    let s = c.start_of-a.ensures in
-    let w = ends_at _ c.place_width-width.ensures.0 in
-    apart_none p.shares p.class p.body.now l.i l.invariant
-    (read_none p.shares p.class p.body.now l.i _ _ s w h _ c.in_use-used.ensures c.if-not-used.true)
+pub slice_bounds-later-count : goal.slice_bounds-later-count
+slice_bounds-later-count c =
+    let i = c.loop-place.invariant in
+    room_for c.args.shares c.args.class _ _ c.in-Some.ensures.steps.1 i.0.wide c.place_width-width.ensures.0 i.1
 
-pub returns-then-twice : goal.returns-then-twice
-returns-then-twice c =
-    let p = c.args in
-    let l = c.loop-i in
-    let h = c.loop-i-test.true in
-    let s = c.start_of-a.ensures in
-    let w = ends_at _ c.place_width-width.ensures.0 in
-    let r = read_one p.shares p.class p.body.now l.i _ _ s w h _ c.in_use-used.ensures
-    c.if-not-used.false in
-    apart_met p.shares p.class p.body.now l.i l.invariant _ r _ c.has_from-twice.ensures c.if-twice.true
+pub returns-then-not-in_use : goal.returns-then-not-in_use
+returns-then-not-in_use c = apart_none c.loop-place.invariant.0 _ _ c.in-Some.ensures.steps.1 c.if-not-in_use.ensures
 
-pub loop-i-preserved : goal.loop-i-preserved
-loop-i-preserved c =
-    let p = c.args in
-    let l = c.loop-i in
-    let h = c.loop-i-test.true in
-    let s = c.start_of-a.ensures in
-    let w = ends_at _ c.place_width-width.ensures.0 in
-    let r = read_one p.shares p.class p.body.now l.i _ _ s w h _ c.in_use-used.ensures
-    c.if-not-used.false in
-    apart_on p.shares p.class p.body.now l.i l.invariant _ r _ c.has_from-twice.ensures c.if-twice.false h
+pub returns-then-has_who : goal.returns-then-has_who
+returns-then-has_who c =
+    let i = c.loop-place.invariant in
+    let s = c.in-Some.ensures.steps in
+    let cut = cut_off c.args.shares c.args.class _ _ s.1 i.0.wide c.place_width-width.ensures.0 i.1 in
+    apart_met i.0 _ _ s.1 c.if-not-in_use.ensures _ cut c.if-has_who.ensures
+
+pub loop-place-preserved : goal.loop-place-preserved
+loop-place-preserved c =
+    let i = c.loop-place.invariant in
+    let s = c.in-Some.ensures.steps in
+    let cut = cut_off c.args.shares c.args.class _ _ s.1 i.0.wide c.place_width-width.ensures.0 i.1 in
+    (apart_on i.0 _ _ s.1 c.if-not-in_use.ensures _ cut c.if-has_who.ensures s.0, cut)
 
 pub returns : goal.returns
-returns c =
-    let p = c.args in
-    let l = c.loop-i in
-    apart_none p.shares p.class p.body.now l.i l.invariant (read_past p.shares p.class p.body.now l.i c.loop-i-test.false)
+returns c = apart_end c.loop-place.invariant.0 c.in-None.ensures.steps.1.0

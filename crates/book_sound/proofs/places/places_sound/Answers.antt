@@ -1,89 +1,51 @@
+use mathlib.Core.Path.{refl, ◌∙◌}
 use native.Mathlib.Omega.{arith}
-use Rattle.numbers.proofs.Placing.{ends_at}
-use Rattle.book_sound.proofs.Sums.{adds_all, adds_end, adds_stop, adds_not, adds_on}
+use Rattle.book_sound.proofs.Chunks.{room_for, cut_off}
+use Rattle.book_sound.proofs.Adding.{adds_start, place_few, adds_end, adds_stop, adds_not, adds_on}
 use Rattle.book_sound.proofs.places.places_sound.Goals as goal
 
-pub loop-i-init : goal.loop-i-init
-loop-i-init c = adds_all _ _ _ _ _ _
+pub loop-place-init : goal.loop-place-init
+loop-place-init c =
+    let items = c.chunks_exact-place-items.ensures in
+    rw (c.into_iter-place-iterator.ensures.into_iter_gives, items.rest) (adds_start (items.size ∙ c.place_width-width.ensures.0) c.requires, refl)
 
-pub returns-then-not-used : goal.returns-then-not-used
-returns-then-not-used c =
-    let p = c.args in
-    let l = c.loop-i in
-    let h = c.loop-i-test.true in
-    let s = c.start_of-a.ensures in
-    let w = ends_at _ c.place_width-width.ensures.0 in
-    adds_stop p.shares p.class p.body.now p.entries p.holders p.units l.sum l.cost l.i l.invariant _ _ s w h _
-    c.in_use-used.ensures c.if-not-used.true _ c.zeros_only-rest.ensures _ c.agree-same.ensures
+pub returns-then-not-in_use : goal.returns-then-not-in_use
+returns-then-not-in_use c =
+    let i = c.loop-place.invariant in
+    adds_stop i.0 _ _ c.in-Some.ensures.steps.1 c.if-not-in_use.ensures i.1 c.agree.ensures
 
-pub returns-then-not-sound : goal.returns-then-not-sound
-returns-then-not-sound c =
-    let p = c.args in
-    let l = c.loop-i in
-    let h = c.loop-i-test.true in
-    let s = c.start_of-a.ensures in
-    let w = ends_at _ c.place_width-width.ensures.0 in
-    adds_not p.shares p.class p.body.now p.entries p.holders p.units l.sum l.cost l.i l.invariant _ _ s w h _
-    c.in_use-used.ensures c.if-not-used.false _ c.place_sound-sound.ensures c.if-not-sound.true
+pub returns-then-not-place_sound : goal.returns-then-not-place_sound
+returns-then-not-place_sound c = adds_not c.loop-place.invariant.0 _ _ c.in-Some.ensures.steps.1 c.if-not-in_use.ensures c.if-not-place_sound.ensures
 
-pub overflow_add-sum : goal.overflow_add-sum
-overflow_add-sum c =
-    let p = c.args in
-    let l = c.loop-i in
-    let h = c.loop-i-test.true in
-    let s = c.start_of-a.ensures in
-    let w = ends_at _ c.place_width-width.ensures.0 in
-    let k = adds_on p.shares p.class p.body.now p.entries p.holders p.units l.sum l.cost l.i l.invariant _ _ s w h _
-    c.in_use-used.ensures c.if-not-used.false _
-    c.place_sound-sound.ensures c.if-not-sound.false _ c.units_of-place.ensures.0 c.units_of-place.ensures.1 in
-    let x = k.small in
-    let y = k.low in
-    let z = k.within in
-    omega arith
+pub overflow_add-sums : goal.overflow_add-sums
+overflow_add-sums c =
+    let f = place_few c.loop-place.invariant.0 _ c.if-not-place_sound.ensures in
+    record { fits = omega arith }
 
-pub overflow_add-cost : goal.overflow_add-cost
-overflow_add-cost c =
-    let p = c.args in
-    let l = c.loop-i in
-    let h = c.loop-i-test.true in
-    let s = c.start_of-a.ensures in
-    let w = ends_at _ c.place_width-width.ensures.0 in
-    let k = adds_on p.shares p.class p.body.now p.entries p.holders p.units l.sum l.cost l.i l.invariant _ _ s w h _
-    c.in_use-used.ensures c.if-not-used.false _
-    c.place_sound-sound.ensures c.if-not-sound.false _ c.units_of-place.ensures.0 c.units_of-place.ensures.1 in
-    let x = k.small in
-    let y = k.low in
-    let z = k.within in
-    omega arith
+pub overflow_add-sums-in-loop-place-2 : goal.overflow_add-sums-in-loop-place-2
+overflow_add-sums-in-loop-place-2 c =
+    let f = place_few c.loop-place.invariant.0 _ c.if-not-place_sound.ensures in
+    let u = c.units_of.ensures.0 in
+    record { fits = omega arith }
 
-pub overflow_add-cost-in-loop-i : goal.overflow_add-cost-in-loop-i
-overflow_add-cost-in-loop-i c =
-    let p = c.args in
-    let l = c.loop-i in
-    let h = c.loop-i-test.true in
-    let s = c.start_of-a.ensures in
-    let w = ends_at _ c.place_width-width.ensures.0 in
-    let k = adds_on p.shares p.class p.body.now p.entries p.holders p.units l.sum l.cost l.i l.invariant _ _ s w h _
-    c.in_use-used.ensures c.if-not-used.false _
-    c.place_sound-sound.ensures c.if-not-sound.false _ c.units_of-place.ensures.0 c.units_of-place.ensures.1 in
-    let x = k.small in
-    let y = k.low in
-    let z = k.within in
-    omega arith
+pub overflow_add-sums-in-loop-place-3 : goal.overflow_add-sums-in-loop-place-3
+overflow_add-sums-in-loop-place-3 c =
+    let f = place_few c.loop-place.invariant.0 _ c.if-not-place_sound.ensures in
+    let u = c.units_of.ensures.0 in
+    record { fits = omega arith }
 
-pub loop-i-preserved : goal.loop-i-preserved
-loop-i-preserved c =
-    let p = c.args in
-    let l = c.loop-i in
-    let h = c.loop-i-test.true in
-    let s = c.start_of-a.ensures in
-    let w = ends_at _ c.place_width-width.ensures.0 in
-    adds_on p.shares p.class p.body.now p.entries p.holders p.units l.sum l.cost l.i l.invariant _ _ s w h _
-    c.in_use-used.ensures c.if-not-used.false _
-    c.place_sound-sound.ensures c.if-not-sound.false _ c.units_of-place.ensures.0 c.units_of-place.ensures.1
+pub slice_bounds-left-count : goal.slice_bounds-left-count
+slice_bounds-left-count c =
+    let i = c.loop-place.invariant in
+    room_for c.args.shares c.args.class _ _ c.in-Some.ensures.steps.1 i.0.wide c.place_width-width.ensures.0 i.1
+
+pub loop-place-preserved : goal.loop-place-preserved
+loop-place-preserved c =
+    let i = c.loop-place.invariant in
+    let s = c.in-Some.ensures.steps in
+    let u = c.units_of.ensures in
+    let cut = cut_off c.args.shares c.args.class _ _ s.1 i.0.wide c.place_width-width.ensures.0 i.1 in
+    (adds_on i.0 _ _ s.1 c.if-not-in_use.ensures c.if-not-place_sound.ensures u.0 u.1 s.0, cut)
 
 pub returns : goal.returns
-returns c =
-    let p = c.args in
-    let l = c.loop-i in
-    adds_end p.shares p.class p.body.now p.entries p.holders p.units l.sum l.cost l.i l.invariant c.loop-i-test.false _ c.agree.ensures
+returns c = let i = c.loop-place.invariant in adds_end i.0 c.in-None.ensures.steps.1.0 i.1 c.agree-2.ensures

@@ -1,10 +1,8 @@
--- The places before i are used and sound, and have `sum` entries and `cost` units.
-use Prim.Native.Nat.{◌-◌}
-use Rattle.book_sound.proofs.Sums.{Adds}
+-- The places before those that are left are used and sound, `sums` are theirs, and `left` are the words that are left.
+use mathlib.Core.Path.{◌≡◌}
+use Rattle.book_sound.proofs.Adding.{Adds}
 use Rattle.book_sound.proofs.places.places_sound.Given as goal
 
-abbrev pub invariant-loop-i : goal.invariant-loop-i
-invariant-loop-i l = Adds l.shares l.class l.body l.entries l.holders l.units l.sum l.cost l.i
-
-abbrev pub decreases-loop-i : goal.decreases-loop-i
-decreases-loop-i l = l.shares.places - l.i
+abbrev pub invariant-loop-place : goal.invariant-loop-place
+invariant-loop-place l =
+    Adds l.shares l.class l.body l.totals l.sums l.place-iterator.size l.place-iterator.rest.now × (l.left ≡ l.place-iterator.rest.now)

@@ -1,12 +1,8 @@
-use Rattle.dump.proofs.Writes.{few, may_walk, counted}
-use borrow.Author.Rules.{rules}
+use Rattle.dump.proofs.Writes.{may_walk, counted}
 use Rattle.dump.proofs.of_register.dump_length.Goals as goal
 
-pub overflow_add-wide : goal.overflow_add-wide
-overflow_add-wide c = let f = (few c.args.u c.args.part.now c.requires).slots in search (f, rules)
-
 pub dump_length-requires : goal.dump_length-requires
-dump_length-requires c = may_walk c.args.u c.args.part.now c.requires _ c.ring_of-ring.ensures
+dump_length-requires c = may_walk _ _ c.requires c.shape_of.ensures.wide c.shape_of.ensures.ring
 
 pub returns : goal.returns
-returns c = counted c.args.u c.args.part.now c.requires _ c.ring_of-ring.ensures _ c.dump_length.ensures
+returns c = counted _ _ c.requires c.shape_of.ensures.wide c.shape_of.ensures.ring c.dump_length.ensures

@@ -4,10 +4,8 @@ use Rattle.model.specs.Dump.{words_of}
 use mathlib.Core.Path.{◌∙◌}
 use Rattle.dump.proofs.walk.pass_class.Goals as goal
 
-pub returns-then-all-from : goal.returns-then-all-from
-returns-then-all-from c = let s = c.args in class_far (words_of s.bytes.now) _ s.from c.if-all-from.true
+pub returns-then-bytes-from : goal.returns-then-bytes-from
+returns-then-bytes-from c = let s = c.args in class_far (words_of s.bytes.now) _ s.from c.if-bytes-from.true
 
 pub returns : goal.returns
-returns c =
-    let s = c.args in
-    rw c.read-count.ensures.1 at c.pass_generations.ensures ∙ class_passed (words_of s.bytes.now) _ s.from _ c.read-count.ensures.0
+returns c = let s = c.args in c.pass_generations.ensures ∙ class_passed (words_of s.bytes.now) _ s.from _ c.word.ensures

@@ -8,6 +8,6 @@ pub returns-then-held-eq0 : goal.returns-then-held-eq0
 unfolding part_length
 returns-then-held-eq0 c = let ws = c.args.part.now in rw (eq-eqb (get_or ws 1 0) 0 c.if-held-eq0.true)
 
-pub returns : goal.returns
+pub returns-else-held-eq0 : goal.returns-else-held-eq0
 unfolding part_length
-returns c = let ws = c.args.part.now in rw (ne_eqb (get_or ws 1 0) 0 c.if-held-eq0.false)
+returns-else-held-eq0 c = let ws = c.args.part.now in rw (ne_eqb (get_or ws 1 0) 0 c.if-held-eq0.false)

@@ -1,27 +1,27 @@
-use Rattle.dump.proofs.Dumping.{slot_fits, slot_on, slots_end}
-use Rattle.runs.proofs.Over.{writes_start}
+use lib.ListN.{get_or, drop}
+use mathlib.Core.List.{[], ◌∷◌}
 use native.Mathlib.Omega.{arith}
+use Prim.Native.Nat.{◌+◌}
+use Rattle.model.specs.Dump.{fingerprints}
+use Rattle.runs.proofs.Over.{writes_start}
+use Rattle.dump.proofs.Writing.{first_fits, first_on, none_left, prints_split, prints_end}
 use Rattle.dump.proofs.write.put_prints.Goals as goal
 
-pub loop-i-init : goal.loop-i-init
-loop-i-init c = (omega arith, writes_start c.requires)
+pub loop-slot-init : goal.loop-slot-init
+loop-slot-init g c = writes_start c.requires
 
 pub put_print-next-requires : goal.put_print-next-requires
-put_print-next-requires c =
-    let s = c.args in
-    let l = c.loop-i in
-    slot_fits s.slots.now l.i (omega arith) l.invariant.1
+put_print-next-requires g c =
+    let ws = c.args.slots.now in
+    let i = c.loop-slot.slot-index in
+    first_fits (fingerprints (get_or ws i 0 ∷ [])) (fingerprints (drop (i + 1) ws)) (prints_split ws i (omega arith)) c.loop-slot.invariant
 
-pub loop-i-preserved : goal.loop-i-preserved
-loop-i-preserved c =
-    let s = c.args in
-    (omega arith, slot_on s.slots.now c.loop-i.i (omega arith) c.loop-i.invariant.1 c.put_print-next.ensures)
-
-pub shape_of-out : goal.shape_of-out
-shape_of-out c = c.loop-i.invariant.1.long
+pub loop-slot-preserved : goal.loop-slot-preserved
+loop-slot-preserved g c =
+    let ws = c.args.slots.now in
+    let i = c.loop-slot.slot-index in
+    first_on (fingerprints (get_or ws i 0 ∷ [])) (fingerprints (drop (i + 1) ws)) (prints_split ws i (omega arith)) c.loop-slot.invariant
+    g.met.E.Element.encoded_long c.put_print-next.ensures
 
 pub returns : goal.returns
-returns c =
-    let s = c.args in
-    let l = c.loop-i in
-    slots_end s.slots.now l.i (omega arith) l.invariant.1
+returns g c = none_left (prints_end c.args.slots.now c.loop-slot.slot-index (omega arith)) c.loop-slot.invariant

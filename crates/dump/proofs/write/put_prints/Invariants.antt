@@ -1,12 +1,10 @@
--- What is written so far, with the fingerprints from slot i on still to come, is all of them written.
-use Rattle.dump.proofs.Writing.{Writes}
+-- What is written so far, with the fingerprints of the slots from position `slot-index` on still to come, is all of them written.
+use Rattle.runs.proofs.Over.{Writes}
 use Rattle.model.specs.Dump.{fingerprints}
-use lib.ListN.{length, drop}
-use Prim.Native.Nat.{◌≤◌, ◌-◌}
+use lib.ListN.{drop}
 use Rattle.dump.proofs.write.put_prints.Given as goal
 
-abbrev pub invariant-loop-i : goal.invariant-loop-i
-invariant-loop-i l = (l.i ≤ length l.slots) × Writes l.next (fingerprints (drop l.i l.slots)) l.out l.at (fingerprints l.slots) l.initial.out
-
-abbrev pub decreases-loop-i : goal.decreases-loop-i
-decreases-loop-i l = length l.slots - l.i
+abbrev pub invariant-loop-slot : goal.invariant-loop-slot
+invariant-loop-slot g l =
+    Writes g.E.Element.encoded g.E.Element.width l.next (fingerprints (drop l.slot-index l.slots)) (g.E.Element.numbers l.out) l.at
+    (fingerprints l.slots) (g.E.Element.numbers l.fn.out)

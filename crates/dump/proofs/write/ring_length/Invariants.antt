@@ -1,13 +1,13 @@
--- The sum so far, with those from word a on, is the sum of all. Each is small, so it does not wrap.
-use Rattle.dump.proofs.Dumping.{Rest}
+-- The sum so far, with those that are left, is the sum of all. Each is small, so it does not wrap.
 use Rattle.dump.specs.Parts.{parts_length}
-use lib.ListN.{drop}
+use Rattle.dump.proofs.Turns.{Rest}
+use lib.ListN.{length}
 use mathlib.Core.Path.{◌≡◌}
-use Prim.Native.Nat.{◌+◌}
+use Prim.Native.Nat.{◌+◌, ◌/◌}
 use Rattle.dump.proofs.write.ring_length.Given as goal
 
-abbrev pub invariant-loop-left : goal.invariant-loop-left
-invariant-loop-left l = Rest l.wide l.words l.a l.left × (l.n + parts_length l.wide l.left (drop l.a l.words) ≡ parts_length l.wide l.ring l.words)
-
-abbrev pub decreases-loop-left : goal.decreases-loop-left
-decreases-loop-left l = l.left
+abbrev pub invariant-loop-part : goal.invariant-loop-part
+invariant-loop-part l =
+    let rest = l.part-iterator.rest.now in
+    Rest l.wide l.part-iterator.size rest
+    × (l.n + parts_length l.wide (length rest / l.wide) rest ≡ parts_length l.wide (length l.ring / l.wide) l.ring)

@@ -1,3 +1,4 @@
+use native.Mathlib.Omega.{arith}
 use Rattle.generation.proofs.Crowding.{gapless_start, gapless_on, gapless_end}
 use Rattle.generation.proofs.crowded.no_gaps.Goals as goal
 
@@ -7,8 +8,7 @@ loop-i-init c = gapless_start _ _ c.run_at_end-run.ensures
 pub loop-i-preserved : goal.loop-i-preserved
 loop-i-preserved c =
     let l = c.loop-i in
-    let h = c.loop-i-test.true in
-    gapless_on _ l.all l.run l.i l.invariant h _ _ c.passed_to-passed.ensures c.run_with-run.ensures
+    gapless_on _ l.all l.run l.i l.invariant (omega arith) _ _ c.passed_to-passed.ensures c.run_with-run.ensures
 
 pub returns : goal.returns
-returns c = let l = c.loop-i in gapless_end _ l.all l.run l.i l.invariant c.loop-i-test.false
+returns c = let l = c.loop-i in gapless_end _ l.all l.run l.i l.invariant (omega arith)

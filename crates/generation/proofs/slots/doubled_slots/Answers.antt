@@ -7,7 +7,7 @@ use Rattle.generation.proofs.slots.doubled_slots.Goals as goal
 
 pub loop-n-init : goal.loop-n-init
 unfolding slots_after
-loop-n-init c = let e = c.larger-n.ensures in (omega arith, omega arith, rw e)
+loop-n-init c = let e = c.max-n.ensures in (omega arith, omega arith, rw e)
 
 pub loop-n-preserved : goal.loop-n-preserved
 loop-n-preserved c =

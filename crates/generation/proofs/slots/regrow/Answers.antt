@@ -10,10 +10,10 @@ pub returns-then-n-le64 : goal.returns-then-n-le64
 returns-then-n-le64 c =
     let a = c.args in
     let more = c.if-wanted-n.false in
-    c.rebuild_few.ensures ∙ grown_on a.slots.now a.n a.wanted (omega arith) more
+    c.rebuild_within.ensures ∙ grown_on a.slots.now a.n a.wanted (omega arith) more
 
-pub returns : goal.returns
-returns c =
+pub returns-else-n-le64 : goal.returns-else-n-le64
+returns-else-n-le64 c =
     let a = c.args in
     let more = c.if-wanted-n.false in
-    c.rebuild_most.ensures ∙ grown_on a.slots.now a.n a.wanted (omega arith) more
+    c.rebuild_within-else-n-le64.ensures ∙ grown_on a.slots.now a.n a.wanted (omega arith) more

@@ -1,4 +1,3 @@
-use Prim.Native.Nat.{suc}
 use native.Mathlib.Omega.{arith}
 use mathlib.Core.Path.{sym, ◌∙◌}
 use lib.ListN.{get_or}
@@ -18,15 +17,14 @@ pub overflow_add-n : goal.overflow_add-n
 overflow_add-n c =
     let l = c.loop-i in
     let s = c.args.slots.now in
-    omega (arith, one≤1 (get_or s l.i 0), c.one_if_held-one.ensures)
+    omega (arith, one≤1 (get_or s l.i 0), c.one_if_held-n.ensures)
 
 pub loop-i-preserved : goal.loop-i-preserved
 loop-i-preserved c =
     let l = c.loop-i in
-    let h = c.loop-i-test.true in
-    let further = c.smaller-further in
+    let steps = c.min-steps in
     let is-near = sym c.if-not-is_near.false ∙ c.is_near.ensures in
-    walk_on _ l.n l.i l.invariant h (suc further.result) (omega (arith, further.ensures)) is-near _ c.one_if_held-one.ensures
+    walk_on _ l.n l.i l.invariant (omega arith) steps.result (omega (arith, steps.ensures)) is-near _ c.one_if_held-n.ensures
 
 pub returns : goal.returns
-returns c = walk_end _ c.loop-i.n c.loop-i.i c.loop-i.invariant c.loop-i-test.false _
+returns c = walk_end _ c.loop-i.n c.loop-i.i c.loop-i.invariant (omega arith) _

@@ -4,16 +4,16 @@ use Rattle.model.proofs.Bounds.{fit_shares}
 use native.Mathlib.Omega.{arith}
 use Rattle.numbers.proofs.starts.class_start.Goals as goal
 
-pub class_width-width-requires : goal.class_width-width-requires
-class_width-width-requires c = fit_shares c.args.s c.requires
+pub class_width-requires : goal.class_width-requires
+class_width-requires c = fit_shares c.args.s c.requires
 
 pub overflow_mul-result : goal.overflow_mul-result
-overflow_mul-result c = let k = product_few c.args.class _ _ class_most c.class_number-number.ensures c.class_width-width.ensures.1 in omega arith
+overflow_mul-result c = let k = product_few c.args.class _ _ class_most c.class_number.ensures c.class_width.ensures.1 in omega arith
 
 pub overflow_add-result : goal.overflow_add-result
-overflow_add-result c = let k = product_few c.args.class _ _ class_most c.class_number-number.ensures c.class_width-width.ensures.1 in omega arith
+overflow_add-result c = let k = product_few c.args.class _ _ class_most c.class_number.ensures c.class_width.ensures.1 in omega arith
 
 pub returns : goal.returns
 returns c =
     let s = c.args in
-    (rw (c.class_number-number.ensures, c.class_width-width.ensures.0), rw (c.class_number-number.ensures, c.class_width-width.ensures.0) (class_within s.s s.class))
+    (rw (c.class_number.ensures, c.class_width.ensures.0), rw (c.class_number.ensures, c.class_width.ensures.0) (class_within s.s s.class))

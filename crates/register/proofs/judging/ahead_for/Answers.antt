@@ -1,21 +1,11 @@
 use Rattle.register.proofs.Verdicts.{ahead_keeps, ahead_turns}
-use Rattle.runs.proofs.Cases.{no}
 use Rattle.register.proofs.judging.ahead_for.Goals as goal
 
-pub returns-in-New : goal.returns-in-New
-returns-in-New c = let e = c.in-New.is in ahead_keeps _ _ (λ z. no (cc))
+pub returns-then-past : goal.returns-then-past
+returns-then-past c = ahead_turns _ _ _ c.in-Late.is (rw c.if-past.true)
 
-pub returns-in-Duplicate : goal.returns-in-Duplicate
-returns-in-Duplicate c = let e = c.in-Duplicate.is in ahead_keeps _ _ (λ z. no (cc))
+pub returns-else-past : goal.returns-else-past
+returns-else-past c = ahead_turns _ _ _ c.in-Late.is (rw c.if-past.false)
 
-pub returns-in-Late : goal.returns-in-Late
-returns-in-Late c = ahead_turns _ _ _ c.in-Late.is c.late_or_ahead.ensures
-
-pub returns-in-Ahead : goal.returns-in-Ahead
-returns-in-Ahead c = let e = c.in-Ahead.is in ahead_keeps _ _ (λ z. no (cc))
-
-pub returns-in-Full : goal.returns-in-Full
-returns-in-Full c = let e = c.in-Full.is in ahead_keeps _ _ (λ z. no (cc))
-
-pub returns-in-Unjudged : goal.returns-in-Unjudged
-returns-in-Unjudged c = let e = c.in-Unjudged.is in ahead_keeps _ _ (λ z. no (cc))
+pub returns-in_default : goal.returns-in_default
+returns-in_default c = ahead_keeps _ _ c.in_default.not-Late

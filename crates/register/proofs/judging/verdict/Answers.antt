@@ -13,7 +13,7 @@ returns-then-under-within c =
     late_reads c.args.u (asked_by c.args.ask) _ _ _ c.bucket_of-bucket.ensures c.as_read.ensures _ c.holds_any_class-held.ensures _ _
     (c.is_under-under.ensures.register_reads c.args.u) _ c.window_for.ensures c.in_window-within.ensures c.if-held.false c.if-under-within.true
 
-pub returns : goal.returns
-returns c =
+pub returns-else-under-within : goal.returns-else-under-within
+returns-else-under-within c =
     new_reads c.args.u (asked_by c.args.ask) _ _ _ c.bucket_of-bucket.ensures c.as_read.ensures _ c.holds_any_class-held.ensures _ _
     (c.is_under-under.ensures.register_reads c.args.u) _ c.window_for.ensures c.in_window-within.ensures c.if-held.false c.if-under-within.false

@@ -1,18 +1,18 @@
 use Rattle.register.proofs.InRings.{position_asks}
-use Rattle.register.proofs.Foreseen.{by_feeders, by_peers, by_own, by_nobody}
+use Rattle.register.proofs.Foreseen.{sought_start, sought_here, sought_on, sought_end}
 use Rattle.register.proofs.peeking.holder_after.Goals as goal
 
 pub position-at-requires : goal.position-at-requires
 position-at-requires c = position_asks _ _ c.rings_of-rings.ensures c.requires.0.1.fit
 
+pub loop-class-init : goal.loop-class-init
+loop-class-init c = sought_start _ _ _ _ _
+
 pub returns-then-holds_after : goal.returns-then-holds_after
-returns-then-holds_after c = search by_feeders
+returns-then-holds_after c = search sought_here
 
-pub returns-then-holds_after-2 : goal.returns-then-holds_after-2
-returns-then-holds_after-2 c = search by_peers
-
-pub returns-then-holds_after-3 : goal.returns-then-holds_after-3
-returns-then-holds_after-3 c = search by_own
+pub loop-class-preserved : goal.loop-class-preserved
+loop-class-preserved c = search sought_on
 
 pub returns : goal.returns
-returns c = search by_nobody
+returns c = search sought_end

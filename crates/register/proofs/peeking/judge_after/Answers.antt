@@ -8,11 +8,11 @@ returns-then-is_pending c = search rule_pending
 pub returns-then-not-ask : goal.returns-then-not-ask
 returns-then-not-ask c = search rule_flag
 
-pub holder_after-holder-requires : goal.holder_after-holder-requires
-holder_after-holder-requires c = search print_positive
+pub holder_after-requires : goal.holder_after-requires
+holder_after-requires c = search print_positive
 
-pub returns-in-By : goal.returns-in-By
-returns-in-By c = search rule_held
+pub returns-in-Some : goal.returns-in-Some
+returns-in-Some c = search rule_held
 
-pub returns-in-Nobody : goal.returns-in-Nobody
-returns-in-Nobody c = search rule_late
+pub returns-in_default : goal.returns-in_default
+returns-in_default c = search rule_late

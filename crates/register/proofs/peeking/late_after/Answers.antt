@@ -10,5 +10,5 @@ returns-then-within c = search late_not
 pub returns-then-past : goal.returns-then-past
 returns-then-past c = search late_ahead
 
-pub returns : goal.returns
-returns c = search late_behind
+pub returns-else-past : goal.returns-else-past
+returns-else-past c = search late_behind

@@ -1,8 +1,6 @@
+use Prim.Native.Nat.{◌-◌}
 use Rattle.restoring.proofs.Dumps.{Walking}
 use Rattle.restoring.proofs.classes.restore_class.Given as goal
 
-abbrev pub invariant-loop-left : goal.invariant-loop-left
-invariant-loop-left l = Walking l.s l.r l.class l.bytes l.from l.before l.initial.run l.run l.at l.left l.whole
-
-abbrev pub decreases-loop-left : goal.decreases-loop-left
-decreases-loop-left l = l.left
+abbrev pub invariant-loop-generation : goal.invariant-loop-generation
+invariant-loop-generation l = Walking l.on.s l.on.r l.class l.bytes l.from l.before l.initial.run l.run l.next (l._generation-end - l._generation) l.whole

@@ -6,17 +6,17 @@ use Rattle.model.proofs.Bounds.{fit_shares}
 use Rattle.restoring.proofs.on_book.draw.Goals as goal
 
 pub class_width-requires : goal.class_width-requires
-class_width-requires c = fit_shares c.args.s c.requires.0.0.fit
+class_width-requires c = fit_shares c.args.on.now.s c.requires.0.fit
 
 pub take-answer-requires : goal.take-answer-requires
 take-answer-requires c =
     let kept-limits = c.kept_limits-limits in
     let is-closed = c.is_closed-closed in
     let class_start = c.class_start-a in (
-      share_asks c.args.s c.args.r c.requires.0.1 c.args.h c.args.run.now c.requires.0.0 _ _ class_start.ensures.0
+      share_asks c.args.on.now.s c.args.on.now.r c.args.on.now.at.below c.args.h c.args.run.now c.requires.0 _ _ class_start.ensures.0
           (ap (λ (n : ℕ). class_start.result + n) c.class_width.ensures.0),
-      limits_are_fit c.args.s c.args.run.now c.requires.0.0 _ _
-          (kept-limits.ensures.reads c.args.s) (is-closed.ensures.reads c.args.s),
+      limits_are_fit c.args.on.now.s c.args.run.now c.requires.0 _ _
+          (kept-limits.ensures.reads c.args.on.now.s) (is-closed.ensures.reads c.args.on.now.s),
     )
 
 pub returns : goal.returns
@@ -26,6 +26,6 @@ returns c =
     let class_start = c.class_start-a in
     let class_width = c.class_width in
     let take = c.take-answer in
-    draw_acts c.args.s c.args.r c.requires.0.1 c.args.h c.args.run.now c.requires.0.0 _ _ class_start.ensures.0
-    (ap (λ (n : ℕ). class_start.result + n) class_width.ensures.0) _ _ (kept-limits.ensures.reads c.args.s) (is-closed.ensures.reads c.args.s) c.requires.1 _ _ _
+    draw_acts c.args.on.now.s c.args.on.now.r c.args.on.now.at.below c.args.h c.args.run.now c.requires.0 _ _ class_start.ensures.0
+    (ap (λ (n : ℕ). class_start.result + n) class_width.ensures.0) _ _ (kept-limits.ensures.reads c.args.on.now.s) (is-closed.ensures.reads c.args.on.now.s) c.requires.1 _ _ _
     take.ensures c.is_granted.ensures

@@ -3,9 +3,9 @@ use Rattle.taking.proofs.InRun.{register_asks}
 use Rattle.restoring.proofs.on_register.fail.Goals as goal
 
 pub fail-requires : goal.fail-requires
-fail-requires c = register_asks c.args.s c.args.r c.requires.1.below _ c.requires.1 c.args.run.now c.requires.0
+fail-requires c = register_asks c.args.on.now.s c.args.on.now.r c.args.on.now.at.below _ c.args.on.now.at c.args.run.now c.requires
 
 pub returns : goal.returns
 returns c =
     let fail = c.fail in
-    fail_acts c.args.s c.args.r c.requires.1.below _ c.requires.1 c.args.run.now _ c.requires.0 c.args.h fail.ensures.1
+    fail_acts c.args.on.now.s c.args.on.now.r c.args.on.now.at.below _ c.args.on.now.at c.args.run.now _ c.requires c.args.h fail.ensures.1

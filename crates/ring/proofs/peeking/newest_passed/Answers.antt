@@ -1,4 +1,6 @@
-use mathlib.Core.Path.{refl}
+use native.Mathlib.Omega.{arith}
+use mathlib.Core.Path.{◌∙◌}
+use Rattle.ring.proofs.Sweeping.{newest_is}
 use Rattle.ring.proofs.Foreseen.{peek_start, peek_on, peek_end}
 use Rattle.ring.proofs.Positions.{bucket_reads}
 use Rattle.ring.proofs.peeking.newest_passed.Goals as goal
@@ -10,9 +12,9 @@ pub loop-b-preserved : goal.loop-b-preserved
 loop-b-preserved c =
     let a = c.args in
     let p = c.position-at.ensures in
-    let one = c.newest_passed-more.ensures a.slots a.ring _ in
-    let t = bucket_reads _ _ _ p.below _ _ c.start_of-a.ensures refl _ p.is one in
-    peek_on _ _ _ _ _ _ _ c.loop-b.invariant c.loop-b-test.true _ t _ c.newest-went.ensures
+    let one = c.newest_passed-more.ensures a.shape.slots a.shape.ring _ in
+    let t = bucket_reads _ _ _ p.below _ _ c.place-place.ensures.start c.place-place.ensures.end _ p.is one in
+    peek_on _ _ _ _ _ _ _ c.loop-b.invariant (omega arith) _ t _ (c.max-went.ensures ∙ newest_is c.loop-b.went c.newest_passed-more.result)
 
 pub returns : goal.returns
 returns c = search peek_end

@@ -4,5 +4,5 @@ use Rattle.ring.proofs.peeking.room_after.Goals as goal
 pub returns-then-goes_at : goal.returns-then-goes_at
 returns-then-goes_at c = search room_gone
 
-pub returns : goal.returns
-returns c = search room_left
+pub returns-else-goes_at : goal.returns-else-goes_at
+returns-else-goes_at c = search room_left

@@ -4,8 +4,8 @@ use Rattle.seeking.proofs.tries.of_ring.Goals as goal
 pub loop-i-init : goal.loop-i-init
 loop-i-init c = search ring_start
 
-pub bucket_at-bucket-requires : goal.bucket_at-bucket-requires
-bucket_at-bucket-requires c = search ring_below
+pub bucket_at-requires : goal.bucket_at-requires
+bucket_at-requires c = search ring_below
 
 pub loop-i-preserved : goal.loop-i-preserved
 loop-i-preserved c = search ring_on

@@ -1,10 +1,6 @@
-use Prim.Native.Nat.{◌-◌}
 use Rattle.seeking.specs.Seeking.{best_of}
 use Rattle.seeking.proofs.Trying.{Windowed}
 use Rattle.seeking.proofs.tries.of_window.Given as goal
 
 abbrev pub invariant-loop-k : goal.invariant-loop-k
-invariant-loop-k l = Windowed l.q l.run l.through.0 l.ring (best_of l.initial.best) l.k (best_of l.best)
-
-abbrev pub decreases-loop-k : goal.decreases-loop-k
-decreases-loop-k l = l.ring - l.k
+invariant-loop-k l = Windowed l.q l.run l.through.0 l.k-end (best_of l.initial.best) l.k (best_of l.best)

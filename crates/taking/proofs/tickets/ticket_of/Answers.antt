@@ -7,14 +7,14 @@ use Rattle.taking.proofs.tickets.ticket_of.Goals as goal
 
 pub returns : goal.returns
 returns c =
-    let as_read = c.as_read-fp in
+    let as_read = c.as_read in
     record {
       who = refl;
       fp = as_read.ensures;
       stamp = refl;
       bucket = c.bucket_of-bucket.ensures;
-      second = c.second_of-second.ensures ∙ ap
+      second = c.second_of.ensures ∙ ap
           (λ (n : ℕ). second_of n c.args.u.bucket) c.bucket_of-bucket.ensures;
       proper = record
-          { print = print_positive _ _ as_read.ensures; short = rw c.second_of-second.ensures (second_short _ _) };
+          { print = print_positive _ _ as_read.ensures; short = rw c.second_of.ensures (second_short _ _) };
     }

@@ -5,4 +5,4 @@ use Rattle.vet.proofs.sound.front_sound.Goals as goal
 
 pub returns : goal.returns
 unfolding front_sound
-returns c = rw c.limits_fit-limits.ensures (simp get_or-drop)
+returns c = rw (c.eq.ensures, c.limits_fit-limits.ensures) (simp get_or-drop)

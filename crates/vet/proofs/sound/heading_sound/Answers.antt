@@ -1,7 +1,15 @@
--- The published sweep is computed; all else is compared.
+-- The settings are compared as the code groups them, and the published sweep is computed.
+use mathlib.Core.Path.{◌≡◌, refl}
+use mathlib.Core.Bool.{Bool, true, false, ◌&&◌}
 use Rattle.model.specs.RegisterWords.{heading_sound}
 use Rattle.vet.proofs.sound.heading_sound.Goals as goal
 
+regrouped : (a b c d e f : Bool) → ((a && b) && ((c && d) && (e && f))) ≡ (a && (b && (c && (d && (e && f)))))
+regrouped false b c d e f = refl
+regrouped true false c d e f = refl
+regrouped true true false d e f = refl
+regrouped true true true d e f = refl
+
 pub returns : goal.returns
 unfolding heading_sound
-returns c = rw c.published-published.ensures
+returns c = rw (c.eq-kept.ensures, c.published-published.ensures, regrouped _ _ _ _ _ _)

@@ -59,4 +59,4 @@ loop-i-preserved c =
     (rw usable-in.ensures at c.register_sound-ok.ensures)
 
 pub returns : goal.returns
-returns c = let s = c.args.s in row_then (form_at s) s.registers (unused_width s) _ _ (pass_end _ _ _ _ _ _ c.loop-i.invariant c.loop-i-test.false)
+returns c = let s = c.args.s in row_then (form_at s) s.registers (unused_width s) _ _ (pass_end _ _ _ _ _ _ c.loop-i.invariant (omega arith))

@@ -1,9 +1,0 @@
-use mathlib.Core.Path.{◌∙◌}
-use borrow.Author.Tests.{eq-eqb, ne_eqb}
-use Rattle.generation.proofs.oldest_with.Goals as goal
-
-pub returns-then-head-eq0 : goal.returns-then-head-eq0
-returns-then-head-eq0 c = rw (eq-eqb _ _ c.if-head-eq0.true)
-
-pub returns : goal.returns
-returns c = c.smaller.ensures ∙ rw (ne_eqb _ _ c.if-head-eq0.false)

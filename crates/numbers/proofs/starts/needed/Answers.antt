@@ -1,4 +1,0 @@
-use Rattle.numbers.proofs.starts.needed.Goals as goal
-
-pub returns : goal.returns
-returns c = c.words_in_bounds.ensures
