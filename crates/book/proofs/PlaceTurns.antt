@@ -4,7 +4,7 @@ use native.Mathlib.Nat.{zero-add}
 use native.Mathlib.Omega.{arith}
 use mathlib.Core.Path.{◌≡◌, refl, ap, sym, ◌∙◌}
 use mathlib.Core.List.{List, [], ◌∷◌, ◌++◌, append-nil}
-use lib.ListN.{length, get_or, set, take, drop, replicate, length-drop, length-set, drop_of_length-le}
+use lib.ListN.{length, get_or, set, take, drop, replicate, length-drop, drop_of_length-le}
 use lib.Seq.{take_all, drop-drop}
 use borrow.Rule.Slice.PartMut.{mid_of, put_mid}
 use Rattle.runs.specs.Chunks.{flat}
@@ -14,7 +14,7 @@ use Rattle.model.specs.declared.Deliverer.{Deliverer}
 use Rattle.model.specs.Widths.{place_head, place_width}
 use Rattle.model.specs.Class.{kind_of}
 use Rattle.model.specs.Book.{Pair, Place, total, entries, with_pairs, later_pairs}
-use Rattle.model.specs.BookWords.{most_entries, pair_words, read_pairs, encode_place, number_word}
+use Rattle.model.specs.BookWords.{pair_words, read_pairs, encode_place, number_word}
 use Rattle.model.proofs.BookWords.{read_flat, length_read}
 use Rattle.pairs.specs.declared.Passed.{Passed}
 use Rattle.pairs.specs.Pairs.{Cells, cells_words, before, passed_in, count_at, raise_at, lower_at, insert_at, remove_at, raised, lowered, inserted, removed, Holds, Takes, Loses}
@@ -119,9 +119,9 @@ cells_of p = record { pairs = p.pairs; past = p.past }
 
 -- ---- each function on a place
 module _ (ws ys : List ℕ) (k : ℕ) where
-  pub place_raises : Turns cells_words (Holds (get_or ws 3 0) k) (raised k) (λ x. tt {0}) (cells_in ws) ys (tt {0})
-      → Turns encode_place (Has k) (raised_place k) (λ p. tt {0}) ws (set (with_cells ws ys) 2 (get_or ws 2 0 + 1)) (tt {0})
-  place_raises t = record {
+  pub place_raises : Wide ws → ((n : ℕ) → Turns cells_words (Holds n k) (raised k) (λ x. tt {0}) (cells_in ws) ys (tt {0}))
+      → Turns encode_place (Has k) (raised_place k) (λ p. tt {0}) ws (set (with_cells ws ys) 2 (get_or (with_cells ws ys) 2 0 + 1)) (tt {0})
+  place_raises w every = let long = w.long in let t = every (get_or ws 3 0) in rw (entries_kept ws ys (omega arith)) (record {
     does = λ p ok is.
         let m = many ws ys p is in
         let s = sum ws ys p is in
@@ -133,11 +133,11 @@ module _ (ws ys : List ℕ) (k : ℕ) where
               (same_past (length p.pairs) (length (raise_at k p.pairs)) p.past l) (sym l),
           refl,
         );
-  }
+  })
 
-  pub place_lowers : Turns cells_words (Holds (get_or ws 3 0) k) (lowered k) (λ x. tt {0}) (cells_in ws) ys (tt {0})
-      → Turns encode_place (Has k) (lowered_place k) (λ p. tt {0}) ws (set (with_cells ws ys) 2 (get_or ws 2 0 - 1)) (tt {0})
-  place_lowers t = record {
+  pub place_lowers : Wide ws → ((n : ℕ) → Turns cells_words (Holds n k) (lowered k) (λ x. tt {0}) (cells_in ws) ys (tt {0}))
+      → Turns encode_place (Has k) (lowered_place k) (λ p. tt {0}) ws (set (with_cells ws ys) 2 (get_or (with_cells ws ys) 2 0 - 1)) (tt {0})
+  place_lowers w every = let long = w.long in let t = every (get_or ws 3 0) in rw (entries_kept ws ys (omega arith)) (record {
     does = λ p ok is.
         let m = many ws ys p is in
         let s = sum ws ys p is in
@@ -149,7 +149,7 @@ module _ (ws ys : List ℕ) (k : ℕ) where
               (same_past (length p.pairs) (length (lower_at k p.pairs)) p.past l) (sym l),
           refl,
         );
-  }
+  })
 
   pub place_inserts : (s : ℕ) → Turns cells_words (Takes (get_or ws 3 0) k) (inserted k s) (λ x. tt {0}) (cells_in ws) ys (tt {0})
       → Turns encode_place (Fits k) (longer_place k s) (λ p. tt {0}) ws (set (set (with_cells ws ys) 2 (get_or ws 2 0 + 1)) 3 (get_or ws 3 0 + 1)) (tt {0})

@@ -9,8 +9,8 @@ ghost use Rattle.pairs.specs.Pairs.{count_at};
 ghost use Rattle.book.specs.Rules.{names_by};
 ghost use Rattle.book.specs.PlaceRules.{Wide, pairs_in, seen_in, Has, Single, Fits, Sums, raised_place, lowered_place, shorter_place, longer_place, later_place, left_of, opened_words};
 
-use model::Deliverer;
-use numbers::{codes, layout};
+use model::{Deliverer, DelivererCode};
+use numbers::layout;
 
 // Whether a place's kind and number are those of a deliverer of its class: Relay and Restored have one place each. They come as the
 // numbers that lie in the words, which may be of no deliverer at all.
@@ -18,10 +18,10 @@ pub fn names(who: Deliverer, kind: u64, number: u64) -> bool
     ensures { result ≡ names_by who kind number }
 {
     match who {
-        Deliverer::Feeder(id) => kind == codes::FEEDER && number == id,
-        Deliverer::Peer(id) => kind == codes::PEER && number == id,
-        Deliverer::Relay => kind == codes::RELAY,
-        Deliverer::Restored(_) => kind == codes::RESTORED,
+        Deliverer::Feeder(id) => kind == DelivererCode::FEEDER && number == id,
+        Deliverer::Peer(id) => kind == DelivererCode::PEER && number == id,
+        Deliverer::Relay => kind == DelivererCode::RELAY,
+        Deliverer::Restored(_) => kind == DelivererCode::RESTORED,
     }
 }
 
@@ -31,10 +31,10 @@ fn kind_word(who: Deliverer) -> u64
     ensures { result ≡ kind_of who }
 {
     match who {
-        Deliverer::Feeder(_) => codes::FEEDER,
-        Deliverer::Peer(_) => codes::PEER,
-        Deliverer::Relay => codes::RELAY,
-        Deliverer::Restored(_) => codes::RESTORED,
+        Deliverer::Feeder(_) => DelivererCode::FEEDER,
+        Deliverer::Peer(_) => DelivererCode::PEER,
+        Deliverer::Relay => DelivererCode::RELAY,
+        Deliverer::Restored(_) => DelivererCode::RESTORED,
     }
 }
 
@@ -93,6 +93,7 @@ pub fn open(place: &mut [u64], who: Deliverer, second: u64)
 }
 
 // One entry more at pair k.
+#[tactic(auto, using(crate::proofs::PlaceTurns::place_raises, crate::proofs::PlaceTurns::count_word))]
 pub fn raise(place: &mut [u64], k: usize)
     requires { Wide place.old × (k < get_or place.old 3 0) × (count_at k (pairs_in place.old) ≤ most_entries) × Is encode_place (Has k) place.old }
     ensures { Turns encode_place (Has k) (raised_place k) (λ p. tt {0}) place.old place.new (tt {0}) }
@@ -121,6 +122,7 @@ pub fn count(place: &[u64], k: usize) -> u64
 }
 
 // One entry less at pair k.
+#[tactic(auto, using(crate::proofs::PlaceTurns::place_lowers, crate::proofs::PlaceTurns::count_word))]
 pub fn lower(place: &mut [u64], k: usize)
     requires { Wide place.old × (k < get_or place.old 3 0) × (1 ≤ count_at k (pairs_in place.old)) × (1 ≤ get_or place.old 2 0) × Is encode_place (Has k) place.old }
     ensures { Turns encode_place (Has k) (lowered_place k) (λ p. tt {0}) place.old place.new (tt {0}) }
@@ -130,6 +132,7 @@ pub fn lower(place: &mut [u64], k: usize)
 }
 
 // Pair k, of one entry, goes.
+#[tactic(auto, using(crate::proofs::PlaceTurns::place_removes, crate::proofs::PlaceTurns::pairs_kept, crate::proofs::PlaceTurns::entries_kept))]
 pub fn remove(place: &mut [u64], k: usize)
     requires { Wide place.old × (k < get_or place.old 3 0) × (1 ≤ get_or place.old 2 0) × Is encode_place (Single k) place.old }
     ensures { Turns encode_place (Single k) (shorter_place k) (λ p. tt {0}) place.old place.new (tt {0}) }
@@ -148,6 +151,7 @@ pub struct Left {
 }
 
 // The pairs before a second go: one walk over the pairs that go, and the others move down.
+#[tactic(auto, using(crate::proofs::PlaceTurns::place_expires, crate::proofs::PlaceTurns::entries_kept, crate::proofs::PlaceTurns::tail_long, crate::proofs::PlaceTurns::went))]
 pub fn expire(place: &mut [u64], t: u64) -> Left
     requires { Wide place.old × (total (pairs_in place.old) ≡ get_or place.old 2 0) × Is encode_place Sums place.old }
     ensures { Turns encode_place Sums (later_place t) (left_of t) place.old place.new result }

@@ -14,7 +14,7 @@ use model::{Class, Second, Shares};
 use numbers::layout;
 use std::io;
 
-// The words of the class.
+// The words of the class, which lie in an array: a host lends fixed memory, too.
 const WORDS: usize = layout::CLASS_HEAD + 3 * (2 * 3 + layout::PLACE_HEAD);
 
 fn print_test(rt: &impl Print, yes: bool, end: &str) -> io::Result<()> {
@@ -22,15 +22,12 @@ fn print_test(rt: &impl Print, yes: bool, end: &str) -> io::Result<()> {
     print!(rt; "{n}{end}")
 }
 
-fn end_line(rt: &impl Print) -> io::Result<()> {
-    println!(rt; "")
-}
-
+// The words. book_try has these lines too: no crate that both use prints, and one for them would be longer.
 fn show(rt: &impl Print, words: &[u64]) -> io::Result<()> {
     for word in words {
         print!(rt; "{word} ")?;
     }
-    end_line(rt)
+    println!(rt; "")
 }
 
 fn shares() -> Shares
@@ -114,7 +111,7 @@ fn main(rt: HostRuntime) -> io::Result<()> {
     // what no rule reads
     altered(&rt, &mut words, 22, 5)?;
     altered(&rt, &mut words, 25, 45)?;
-    end_line(&rt)?;
+    println!(rt; "")?;
     // a pair goes; a pair and a place go
     expire(&rt, &mut words, 12)?;
     expire(&rt, &mut words, 16)?;
@@ -128,5 +125,5 @@ fn main(rt: HostRuntime) -> io::Result<()> {
     expire(&rt, &mut words, 4294967292)?;
     // an unused place that is not 0
     altered(&rt, &mut words, 33, 1)?;
-    end_line(&rt)
+    println!(rt; "")
 }

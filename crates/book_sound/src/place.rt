@@ -4,15 +4,15 @@ ghost use Rattle.model.specs.Widths.{place_head, place_width};
 ghost use Rattle.model.specs.Class.{same_deliverer};
 ghost use Rattle.model.specs.BookWords.{kind_sound as kind_rule, place_sound as place_rule, read_who, used_place};
 
-use model::Class;
+use model::{Class, DelivererCode};
 use numbers::bounds::MOST_ENTRIES;
-use numbers::{codes, layout};
+use numbers::layout;
 
 // A deliverer of that class, or a restored one, by its kind. It is the number in the words: until it has passed it may be no kind.
 fn kind_sound(class: Class, kind: u64) -> bool
     ensures { result ≡ kind_rule class kind }
 {
-    kind == codes::RESTORED || kind == codes::class_number(class)
+    kind == DelivererCode::RESTORED || kind == u64::from(class)
 }
 
 // A used place is sound: the cells of its pairs lie within it before they are read.
@@ -49,7 +49,7 @@ pub fn same_who(class: Class, place: &[u64], other: &[u64]) -> bool
 {
     let kind = place[layout::PLACE_KIND];
     let other_kind = other[layout::PLACE_KIND];
-    if kind == codes::RESTORED || other_kind == codes::RESTORED {
+    if kind == DelivererCode::RESTORED || other_kind == DelivererCode::RESTORED {
         return kind == other_kind;
     }
     match class {

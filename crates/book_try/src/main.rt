@@ -14,7 +14,7 @@ use model::{Deliverer, Draw, Limits, Second, Shares};
 use numbers::layout;
 use std::io;
 
-// The words of the class.
+// The words of the class, which lie in an array: a host lends fixed memory, too.
 const WORDS: usize = layout::CLASS_HEAD + 4 * (2 * 2 + layout::PLACE_HEAD);
 
 const SHARES: Shares = Shares {
@@ -32,6 +32,7 @@ const LIMITS: Limits = Limits {
     relay: 12,
 };
 
+// The words. book_expiry_try has these lines too: no crate that both use prints, and one for them would be longer.
 fn show(rt: &impl Print, words: &[u64]) -> io::Result<()> {
     for word in words {
         print!(rt; "{word} ")?;

@@ -24,6 +24,7 @@ fn neighbours_differ(words: &[u64]) -> bool
 }
 
 // Whether words are distinct. They are copied to `sorted`, which is sorted with the help of `spare`.
+#[tactic(auto, using(crate::proofs::Telling::told))]
 fn distinct_through(words: &[u64], sorted: &mut [u64], spare: &mut [u64]) -> bool
     requires { (length words.now ≡ length sorted.old) × ((length sorted.old ≤ 1024) × (length sorted.old ≤ length spare.old)) }
     ensures value { result ≡ distinct words.now }

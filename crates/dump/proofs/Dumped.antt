@@ -5,7 +5,7 @@ use native.Mathlib.Omega.{arith}
 use mathlib.Core.Path.{◌≡◌, refl, ap, ◌∙◌}
 use mathlib.Core.Bool.{cond}
 use mathlib.Core.List.{List, [], ◌∷◌, ◌++◌}
-use mathlib.Core.Option.{Option, none, some}
+use Rattle.std.specs.Prelude.{Option, Some, None}
 use lib.Dec.{eqb}
 use lib.ListN.{length, get_or, take, drop, length-append}
 use lib.Seq.{take_at, drop_at, take_all, drop-drop}
@@ -134,8 +134,8 @@ module _ (H A B C : List ℕ) (h x : ℕ) (hh : length H ≡ h) (ha : length A �
 
 -- ---- a register
 floor_is : (f : Option ℕ) → floor_of (floor_flag f) (floor_word f) ≡ dumped_floor f
-floor_is none = refl
-floor_is (some f) = refl
+floor_is None = refl
+floor_is (Some f) = refl
 
 module _ (u : Usable) (reg : Register) (ok : (register_form u).Ok reg) (ws : List ℕ) (is : ws ≡ (register_form u).enc reg) where
   abbrev pub wide : ℕ

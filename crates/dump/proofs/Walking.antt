@@ -5,7 +5,7 @@ use native.Mathlib.Omega.{arith}
 use mathlib.Core.Path.{◌≡◌, ap, sym, ◌∙◌}
 use mathlib.Core.Bool.{cond}
 use mathlib.Core.List.{List, [], ◌∷◌}
-use mathlib.Core.Option.{Option, none, some}
+use Rattle.std.specs.Prelude.{Option, Some, None}
 use lib.Dec.{leb}
 use lib.ListN.{length, get_or, take, drop, length-drop, drop_of_length-le}
 use lib.Seq.{drop-cons, drop-drop}
@@ -40,15 +40,15 @@ class_after ws p = omega (arith, end_after ws (p + 1) (get_or ws p 0))
 -- ---- generations, as the model reads them
 -- what the model says of words that hold all up to position e, or do not
 abbrev cut_at : List ℕ → List Dumped → ℕ → Option Cut
-cut_at ws ds e = cond (leb e (length ws)) (some (record { found = ds; rest = drop e ws })) none
+cut_at ws ds e = cond (leb e (length ws)) (Some (record { found = ds; rest = drop e ws })) None
 
-cut_here : (ws : List ℕ) (ds : List Dumped) (e : ℕ) → e ≤ length ws → cut_at ws ds e ≡ some (record { found = ds; rest = drop e ws })
+cut_here : (ws : List ℕ) (ds : List Dumped) (e : ℕ) → e ≤ length ws → cut_at ws ds e ≡ Some (record { found = ds; rest = drop e ws })
 cut_here ws ds e h = rw (le-leb e (length ws) h)
 
-cut_far : (ws : List ℕ) (ds : List Dumped) (e : ℕ) → length ws < e → cut_at ws ds e ≡ none
+cut_far : (ws : List ℕ) (ds : List Dumped) (e : ℕ) → length ws < e → cut_at ws ds e ≡ None
 cut_far ws ds e h = rw (lt-leb e (length ws) h)
 
-read_few : (most n : ℕ) (us : List ℕ) → length us < 3 → read_generations most (suc n) us ≡ none
+read_few : (most n : ℕ) (us : List ℕ) → length us < 3 → read_generations most (suc n) us ≡ None
 unfolding read_generations
 read_few zero n us h = rw (ne_eqb (suc n) 0 (λ z. omega arith))
 read_few (suc most) n [] h = rw (ne_eqb (suc n) 0 (λ z. omega arith))
@@ -62,7 +62,7 @@ first_at ws d ds e = by_test (leb e (length ws)) (λ b. rw b) (λ b. rw b)
 
 -- one generation of which the three words that lead are there
 read_cons : (most n b t l : ℕ) (us : List ℕ) → read_generations (suc most) (suc n) (b ∷ t ∷ l ∷ us)
-    ≡ cond (leb l (length us)) (found_first (record { bucket = b; newest = t; prints = take l us }) (read_generations most n (drop l us))) none
+    ≡ cond (leb l (length us)) (found_first (record { bucket = b; newest = t; prints = take l us }) (read_generations most n (drop l us))) None
 unfolding read_generations
 read_cons most n b t l us = let less : suc n - 1 ≡ n = omega arith in rw (ne_eqb (suc n) 0 (λ z. omega arith), less)
 
@@ -81,7 +81,7 @@ fits_from ws p l h =
 
 read_step : (ws : List ℕ) (most n p : ℕ) → p + 3 ≤ length ws
     → read_generations (suc most) (suc n) (drop p ws)
-    ≡ cond (leb (next_at ws p) (length ws)) (found_first (dumped_at ws p) (read_generations most n (drop (next_at ws p) ws))) none
+    ≡ cond (leb (next_at ws p) (length ws)) (found_first (dumped_at ws p) (read_generations most n (drop (next_at ws p) ws))) None
 read_step ws most n p h =
     rw (lead_at ws p h, read_cons most n (get_or ws p 0) (get_or ws (p + 1) 0) (length_at ws p) (drop (p + 3) ws), fits_from ws (p + 3) (length_at ws p) h, drop-drop (length_at ws p) (p + 3) ws)
 
@@ -129,7 +129,7 @@ class_reads ws p =
 module _ (ws : List ℕ) (f : ℕ) where
   own_reads : (a b : List Dumped) (p : ℕ) → read_own f (length ws) a b (read_class (drop p ws))
       ≡ cond (leb (class_end ws p) (length ws))
-      (some (record { floor = f; classes = record { of_feeders = a; of_peers = b; of_own = class_dumped ws p }; words = class_end ws p })) none
+      (Some (record { floor = f; classes = record { of_feeders = a; of_peers = b; of_own = class_dumped ws p }; words = class_end ws p })) None
   unfolding read_own
   own_reads a b p =
       by_test (leb (class_end ws p) (length ws))
@@ -163,7 +163,7 @@ module _ (ws : List ℕ) (f : ℕ) where
       let b = class_dumped ws (class_end ws p) in
       rw (class_reads ws p, t) (sym (peers_reads a (class_end ws p) ∙ (rw far at (own_reads a b e)))))
 
-pub words_read : (ws : List ℕ) → read_words ws ≡ cond (leb (dump_end ws) (length ws)) (some (dump_at ws)) none
+pub words_read : (ws : List ℕ) → read_words ws ≡ cond (leb (dump_end ws) (length ws)) (Some (dump_at ws)) None
 unfolding read_words
 words_read [] = rw (lt-leb (dump_end []) 0 (omega (arith, class_after [] (own_at []))))
 words_read (f ∷ us) =

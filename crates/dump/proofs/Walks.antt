@@ -5,7 +5,6 @@ use native.Mathlib.Numerals.{add-one}
 use native.Mathlib.Omega.{arith}
 use mathlib.Core.Path.{◌≡◌, refl, sym, ◌∙◌}
 use mathlib.Core.List.{List, [], ◌∷◌}
-use mathlib.Core.Option.{none}
 use lib.Dec.{leb}
 use lib.ListN.{length, get_or, drop, length-drop, drop_of_length-le}
 use lib.Seq.{drop-cons, get_or-take, get_or-drop, length-take-le}
@@ -19,7 +18,7 @@ use Rattle.dump.proofs.Walking.{end_next, dumped_next, end_after, class_after, w
 use Rattle.dump.proofs.Passing.{lengths_are}
 
 -- ---- what the lengths tell
-pub cut : (bs : List ℕ) → None ≡ lengths_of (read_dump bs) → read_dump bs ≡ none
+pub cut : (bs : List ℕ) → None ≡ lengths_of (read_dump bs) → read_dump bs ≡ None
 unfolding read_dump
 cut bs t =
     let l = words_long (length bs / 8) bs in

@@ -1,9 +1,7 @@
 -- A dump by the positions of its words. The model reads a dump from the front and hands on what is left; code has a position in
 -- the bytes. Here is what lies at a position, said of any words: past their end they read as 0, so that a walk comes to an end
 -- past the last word exactly when the model says that the dump is cut short.
-use Rattle.std.specs.Prelude.{ℕ, zero, suc, ◌+◌, ◌-◌, ◌/◌, ◌<◌, ◌≤◌, ◌≡◌, cond, List, [], ◌∷◌, leb, length, get_or, take, drop}
-use Rattle.std.specs.Prelude.{Option as Answer, None, Some}
-use Rattle.std.proofs.Math.Option.{Option, none, some}
+use Rattle.std.specs.Prelude.{ℕ, zero, suc, ◌+◌, ◌-◌, ◌/◌, ◌<◌, ◌≤◌, ◌≡◌, cond, Option, Some, None, List, [], ◌∷◌, leb, length, get_or, take, drop}
 use Rattle.model.specs.Dump.{Dumped, Dump, words_of, read_dump}
 use Rattle.dump.specs.declared.walk.Found.{Found}
 
@@ -53,13 +51,13 @@ dump_at ws = record {
 
 -- ---- what code answers
 -- a walk that ends at position e of so many words: none where that is past them
-abbrev pub passed_to : ℕ → ℕ → Answer ℕ
+abbrev pub passed_to : ℕ → ℕ → Option ℕ
 passed_to e all = cond (leb e all) (Some e) None
 
 -- how many words a dump has, and none where it is cut short
-abbrev pub lengths_of : Option Dump → Answer ℕ
-lengths_of none = None
-lengths_of (some d) = Some d.words
+abbrev pub lengths_of : Option Dump → Option ℕ
+lengths_of None = None
+lengths_of (Some d) = Some d.words
 
 pub record FoundAt (ws : List ℕ) (p : ℕ) (f : Found) : Type 0 where
   pub bucket : f.bucket.0 ≡ (dumped_at ws p).bucket
@@ -86,7 +84,7 @@ pub record ClassWalks (bs : List ℕ) (p e : ℕ) : Type 0 where
 
 -- a dump of so many words
 pub record Whole (bs : List ℕ) (words : ℕ) : Type 0 where
-  pub reads : read_dump bs ≡ some (dump_at (words_of bs))
+  pub reads : read_dump bs ≡ Some (dump_at (words_of bs))
   pub long : words ≡ dump_end (words_of bs)
   pub floor : 0 < length bs / 8
   pub feeders : ClassWalks bs 1 (peers_at (words_of bs))

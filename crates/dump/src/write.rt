@@ -80,7 +80,7 @@ fn ring_length(ring: &[u64], wide: usize) -> usize
 
 // ---- a register
 
-// The word that tells a floor: 0 where there is none, else one more than it, at most 2^64 − 1.
+// The word that tells a floor: 0 where there is none, else one more than it, at most 2^64 − 1. The flag is the register's word, as it lies.
 fn floor_told(flag: u64, floor: u64) -> u64
     ensures { result ≡ floor_of flag floor }
 {

@@ -1,6 +1,5 @@
 -- The model's rules on one generation, as the functions of this crate name them.
 use Rattle.std.specs.Prelude.{ℕ, max, Bool, cond, ◌&&◌, Option, Some, None, eqb, leb}
-use Rattle.std.proofs.Math.Option.{Option as Floor, none, some}
 use Rattle.model.specs.declared.Room.{Room}
 use Rattle.model.specs.declared.Room.TheVariants.{At, Collides, Full}
 use Rattle.model.specs.Generation.{Generation, oldest_with, held, among, put, slots_for, grown, dropped}
@@ -39,8 +38,3 @@ swept_at through g = cond (passed through g) (dropped g) g
 
 abbrev pub sweep_says : ℕ → Generation → Option ℕ
 sweep_says through g = cond (passed through g) (Some g.newest) None
-
--- a floor of the rules as the code's Option has it: what went is the floor that it raises from none
-abbrev pub went : Floor ℕ → Option ℕ
-went none = None
-went (some newest) = Some newest

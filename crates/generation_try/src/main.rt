@@ -10,23 +10,18 @@ use model::{Bucket, Room};
 use numbers::layout;
 use std::io;
 
-// The words of a generation of at most 8 slots, and of one of 128.
+// The words of a generation of at most 8 slots, and of one of 128, which lie in an array: a host lends fixed memory, too.
 const FEW: usize = 8 + layout::GENERATION_HEAD;
 
 const MANY: usize = 128 + layout::GENERATION_HEAD;
 
-fn print(rt: &impl Print, n: u64, end: u8) -> io::Result<()> {
-    print!(rt; "{n}")?;
-    rt.write_all(&[end])
-}
-
-// The answer's code, then the words.
+// The answer's code, then the words. ring_try has these lines too: no crate that both use prints, and one for them would be longer.
 fn show(rt: &impl Print, says: u64, part: &[u64]) -> io::Result<()> {
-    print(rt, says, b':')?;
+    print!(rt; "{says}:")?;
     for word in part {
-        print(rt, *word, b' ')?;
+        print!(rt; "{word} ")?;
     }
-    rt.write_all(&[b'\n'])
+    println!(rt; "")
 }
 
 // Inserts a fingerprint: 1 where it did, 2 where another bucket is held, 3 where there is no room, and 0 for unsound words.
@@ -89,7 +84,7 @@ fn show_crowd(rt: &impl Print, first: usize, at: usize, word: u64, held: u64) ->
     part[at + layout::GENERATION_HEAD] = word;
     part[1] = held;
     let says = sound(&part);
-    print(rt, says, b' ')
+    print!(rt; "{says} ")
 }
 
 // Those from `first` on, of which `next` is the slot behind the last, with a new fingerprint there, with one that is
@@ -103,7 +98,7 @@ fn show_crowds(rt: &impl Print, first: usize, next: usize, new: u64, known: u64)
     show_crowd(rt, first, next + 1, new, 96)?;
     show_crowd(rt, first, 51, 0, 94)?;
     show_crowd(rt, first, next, 0, 94)?;
-    rt.write_all(&[b'\n'])
+    println!(rt; "")
 }
 
 fn main(rt: HostRuntime) -> io::Result<()> {

@@ -6,6 +6,7 @@ use mathlib.Core.List.{List}
 use lib.Dec.{eqb}
 use borrow.Author.Tests.{eqb-true, ltb-true, lt-ltb}
 use Rattle.model.specs.Answer.{Said}
+use Rattle.model.specs.declared.Manner.TheVariants.{Judged, JudgedBatch}
 use Rattle.model.specs.declared.Settings.{Settings}
 use Rattle.model.specs.declared.Usable.{Usable}
 use Rattle.model.specs.declared.Verdict.{Verdict}
@@ -17,7 +18,7 @@ use Rattle.model.specs.Generation.{as_read}
 use Rattle.model.specs.Register.{Register, holds, any_class}
 use Rattle.model.specs.Judge.{Ask, bucket_of, window_for, in_window, front_past, unjudged, verdict, Judgement, judge, ahead_for, judge_batch}
 use Rattle.model.specs.Words.{State}
-use Rattle.model.specs.Calls.{judged, judged_batch, Asking, ask_of, register_at, after_judged, asked, done_on, step, held_in, refused, reply, after}
+use Rattle.model.specs.Calls.{Asking, ask_of, register_at, after_judged, asked, done_on, step, held_in, refused, reply, after}
 use Rattle.model.specs.Codes.{went_through}
 use Rattle.model.specs.AheadOnly.{judge_call, batch_call, FrontPast, AheadFor, AheadOnly}
 use Rattle.model.proofs.Simulates.{refused_words, reply_is, after_is, through_zero}
@@ -76,7 +77,7 @@ module _ (st ws : List ℕ) (r : ℕ) (a : Asking) where
 
   -- both are refused alike
   judge_zero : refused st ws (batch_call r a) ≡ 0 → refused st ws (judge_call r a) ≡ 0
-  judge_zero z = same_refusal st ws r a judged judged_batch ∙ z
+  judge_zero z = same_refusal st ws r a Judged JudgedBatch ∙ z
 
   module _ (z : refused st ws (batch_call r a) ≡ 0) where
     batch_says : reply st ws (batch_call r a) ≡ Said (ahead_for past says)
@@ -97,7 +98,7 @@ module _ (st ws : List ℕ) (r : ℕ) (a : Asking) where
 
   judge_said : (v : Verdict) → reply st ws (judge_call r a) ≡ Said v → refused st ws (batch_call r a) ≡ 0
   unfolding went_through
-  judge_said v e = same_refusal st ws r a judged_batch judged ∙ through_zero st ws (judge_call r a) (ap went_through e)
+  judge_said v e = same_refusal st ws r a JudgedBatch Judged ∙ through_zero st ws (judge_call r a) (ap went_through e)
 
   is_past : past ≡ true → FrontPast st r a
   unfolding front_past
@@ -109,7 +110,7 @@ module _ (st ws : List ℕ) (r : ℕ) (a : Asking) where
 
   refused_alike : eqb (refused st ws (batch_call r a)) 0 ≡ false → reply st ws (batch_call r a) ≡ reply st ws (judge_call r a)
   unfolding reply
-  refused_alike d = rw (same_refusal st ws r a judged judged_batch, d)
+  refused_alike d = rw (same_refusal st ws r a Judged JudgedBatch, d)
 
   ahead_for_it : AheadFor st ws r a
   unfolding ahead_for
@@ -130,7 +131,7 @@ module _ (st ws : List ℕ) (r : ℕ) (a : Asking) where
     words =
         by_test (eqb (refused st ws (batch_call r a)) 0) (λ d. same_left (eqb-true (refused st ws (batch_call r a)) 0 d))
         (λ d. refused_words st ws (batch_call r a) d
-        ∙ sym (refused_words st ws (judge_call r a) (ap (λ (i : ℕ). eqb i 0) (same_refusal st ws r a judged judged_batch) ∙ d)));
+        ∙ sym (refused_words st ws (judge_call r a) (ap (λ (i : ℕ). eqb i 0) (same_refusal st ws r a Judged JudgedBatch) ∙ d)));
   }
 
 pub ahead_only : AheadOnly

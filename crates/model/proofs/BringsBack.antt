@@ -2,7 +2,7 @@
 use Prim.Native.Nat.{ℕ}
 use mathlib.Core.Path.{◌≡◌, refl, ap, sym, ◌∙◌, subst}
 use mathlib.Core.List.{List, ◌++◌}
-use mathlib.Core.Option.{some}
+use Rattle.std.specs.Prelude.{Some}
 use lib.ListN.{length}
 use Rattle.model.specs.Answer.{Whole}
 use Rattle.model.specs.declared.Settings.{Settings}
@@ -19,14 +19,14 @@ use Rattle.model.proofs.Untouched.{stays_as_started}
 use Rattle.model.proofs.RoundTrip.{wrote, vetted_seen, round_trip}
 
 -- ---- what a vetted run of words holds, it holds under its own settings
-seen_holding : (st ws : List ℕ) → Vetted st ws → view ws ≡ some (holding ws)
-seen_holding st ws v = let e = vetted_seen st ws v in e ∙ ap some (sym (view_read ws _ e).holds)
+seen_holding : (st ws : List ℕ) → Vetted st ws → view ws ≡ Some (holding ws)
+seen_holding st ws v = let e = vetted_seen st ws v in e ∙ ap Some (sym (view_read ws _ e).holds)
 
 pub holding_is : (st ws : List ℕ) → Vetted st ws → held_in (settings_of st) ws ≡ holding ws
 holding_is st ws v = sym (view_read ws _ (vetted_seen st ws v)).holds
 
 -- ---- the round trip's end is the promise's, where the words that were dumped were sound
-ends : (d : ADump) (st now : List ℕ) (q : ℕ) (more : List ℕ) → view d.words ≡ some (holding d.words) → length (bytes_of d) ≡ d.told
+ends : (d : ADump) (st now : List ℕ) (q : ℕ) (more : List ℕ) → view d.words ≡ Some (holding d.words) → length (bytes_of d) ≡ d.told
     → Returns (dumped d) (bytes_of d) st now q (bytes_of d ++ more) → BringsBack d st now q more
 ends d st now q more seen long r =
     let same = (view_read (after st now (On q (Restore (bytes_of d ++ more)))) r.left r.holds).holds in
@@ -34,7 +34,7 @@ ends d st now q more seen long r =
       long = long;
       answer = r.answer ∙ ap Whole long;
       then_sound = seen;
-      now_sound = r.holds ∙ ap some (sym same);
+      now_sound = r.holds ∙ ap Some (sym same);
       brought = subst (λ (x : State). BroughtBack (dumped d) (register_at q x)) (sym same) r.brought;
     }
 

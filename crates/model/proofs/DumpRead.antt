@@ -2,7 +2,7 @@
 use mathlib.Core.Path.{◌≡◌, refl, ap, ◌∙◌}
 use mathlib.Core.Bool.{true}
 use mathlib.Core.List.{List, [], ◌∷◌, ◌++◌, map, append_assoc}
-use mathlib.Core.Option.{some}
+use Rattle.std.specs.Prelude.{Some}
 use Prim.Native.Nat.{ℕ, zero, suc, ◌-◌, ◌/◌, ◌≤◌}
 use native.Mathlib.Omega.{arith}
 use lib.Dec.{leb, eqb}
@@ -37,7 +37,7 @@ prints_length [] = refl
 prints_length (x ∷ xs) = by_test (eqb x 0) (λ e. simp e (omega (arith, prints_length xs))) (λ e. simp e (omega (arith, prints_length xs)))
 
 -- ---- generations
-pub read_none : (most : ℕ) (ws : List ℕ) → read_generations most 0 ws ≡ some (record { found = []; rest = ws })
+pub read_none : (most : ℕ) (ws : List ℕ) → read_generations most 0 ws ≡ Some (record { found = []; rest = ws })
 unfolding read_generations
 read_none zero ws = refl
 read_none (suc most) [] = refl
@@ -55,7 +55,7 @@ read_one most n b t l fps more e =
     rw (ne_eqb (suc n) 0 (λ z. omega arith), enough, less, take_at fps more l e, drop_at fps more l e)
 
 read_back : (gs : List Generation) (most : ℕ) (rest : List ℕ) → length gs ≤ most
-    → read_generations most (length gs) (flat generation_words gs ++ rest) ≡ some (record { found = map as_dumped gs; rest = rest })
+    → read_generations most (length gs) (flat generation_words gs ++ rest) ≡ Some (record { found = map as_dumped gs; rest = rest })
 unfolding flat found_first
 read_back [] most rest h = read_none most rest
 read_back (g ∷ gs) zero rest h = absurd (omega arith)
@@ -74,12 +74,12 @@ few (g ∷ gs) rest =
     let m = length-append (fingerprints g.slots) (flat generation_words gs) in
     rw length-append (omega arith)
 
-class_back : (ring : Ring) (rest : List ℕ) → read_class (class_words ring ++ rest) ≡ some (record { found = dumped_of ring; rest = rest })
+class_back : (ring : Ring) (rest : List ℕ) → read_class (class_words ring ++ rest) ≡ Some (record { found = dumped_of ring; rest = rest })
 unfolding read_class class_words dumped_of
 class_back ring rest = let gs = held_list ring in read_back gs (length (flat generation_words gs ++ rest)) rest (few gs rest)
 
 -- ---- the whole of it
-words_back : (reg : Register) (rest : List ℕ) → read_words (dump_words reg ++ rest) ≡ some (dump_of reg)
+words_back : (reg : Register) (rest : List ℕ) → read_words (dump_words reg ++ rest) ≡ Some (dump_of reg)
 unfolding read_words dump_words read_feeders read_peers read_own
 words_back reg rest =
     let a = class_words reg.rings.of_feeders in
@@ -94,6 +94,6 @@ words_back reg rest =
     omega arith in
     rw (append_assoc a (b ++ c) rest, append_assoc b c rest, class_back, class_back, class_back, l)
 
-pub dump_back : (reg : Register) (more : List ℕ) → Words64 (dump_words reg) → read_dump (dump_bytes reg ++ more) ≡ some (dump_of reg)
+pub dump_back : (reg : Register) (more : List ℕ) → Words64 (dump_words reg) → read_dump (dump_bytes reg ++ more) ≡ Some (dump_of reg)
 unfolding read_dump dump_bytes
 dump_back reg more h = rw (words_of_bytes (dump_words reg) more h) (words_back reg (words_in (length more / 8) more))

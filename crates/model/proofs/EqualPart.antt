@@ -3,10 +3,12 @@
 use mathlib.Core.Path.{◌≡◌}
 use mathlib.Core.Bool.{true, cond}
 use mathlib.Core.List.{[], ◌∷◌}
-use mathlib.Core.Option.{Option, none, some}
+use Rattle.std.specs.Prelude.{Option, Some, None}
 use Prim.Native.Nat.{ℕ}
 use lib.Dec.{eqb}
 use borrow.Author.Tests.{le-leb, eqb-true}
+use Rattle.model.specs.declared.Manner.{Manner}
+use Rattle.model.specs.declared.Manner.TheVariants.{Judged, JudgedBatch, Taken, TakenBatch}
 use Rattle.model.specs.declared.Verdict.TheVariants.{New, Late, Unjudged}
 use Rattle.model.specs.declared.Draw.TheVariants.{Granted}
 use Rattle.model.specs.declared.Limits.{Limits}
@@ -22,7 +24,7 @@ use Rattle.model.specs.Register.{Register, sweep}
 use Rattle.model.specs.Judge.{Ask, bucket_of, unjudged, judge, ahead_for, judge_batch, collides, make_room, take_room, take_share, take_judged, take, take_batch}
 use Rattle.model.specs.Dump.{Dump}
 use Rattle.model.specs.Words.{State}
-use Rattle.model.specs.Calls.{Manner, judged, judged_batch, taken, taken_batch, register_at, asked, after_judged, after_taken, after_restored, restored, resumed}
+use Rattle.model.specs.Calls.{register_at, asked, after_judged, after_taken, after_restored, restored, resumed}
 use Rattle.model.specs.EqualPart.{same_limits, met, taken_by_another, Due}
 use Rattle.model.proofs.Sharing.{grants}
 use Rattle.model.proofs.SharesKept.{Bounded, take_bounded, take_batch_bounded, restore_bounded, resume_bounded}
@@ -79,17 +81,17 @@ module _ (s : Settings) where
 
   pub asked_bounded : (r : ℕ) (m : Manner) (a : Ask) (t : State) → BoundedState t → BoundedState (asked s r m a t).state
   unfolding asked after_judged after_taken
-  asked_bounded r judged a t h = h
-  asked_bounded r judged_batch a t h = h
-  asked_bounded r taken a t h = take_bounded s.shares (usable_at s r) (register_at r t) t.book a h
-  asked_bounded r taken_batch a t h = take_batch_bounded s.shares (usable_at s r) (register_at r t) t.book a h
+  asked_bounded r Judged a t h = h
+  asked_bounded r JudgedBatch a t h = h
+  asked_bounded r Taken a t h = take_bounded s.shares (usable_at s r) (register_at r t) t.book a h
+  asked_bounded r TakenBatch a t h = take_batch_bounded s.shares (usable_at s r) (register_at r t) t.book a h
 
   pub restored_bounded : (r : ℕ) (t : State) (d : Option Dump) → BoundedState t → BoundedState (restored s r t d).state
   unfolding restored after_restored
-  restored_bounded r t none h = h
-  restored_bounded r t (some d) h = restore_bounded s.shares (usable_at s r) d (register_at r t) t.book h
+  restored_bounded r t None h = h
+  restored_bounded r t (Some d) h = restore_bounded s.shares (usable_at s r) d (register_at r t) t.book h
 
   pub resumed_bounded : (r : ℕ) (t : State) (p : Option ℕ) (d : Option Dump) → BoundedState t → BoundedState (resumed s r t p d).state
   unfolding resumed after_restored
-  resumed_bounded r t p none h = h
-  resumed_bounded r t p (some d) h = resume_bounded s.shares (usable_at s r) d p (register_at r t) t.book h
+  resumed_bounded r t p None h = h
+  resumed_bounded r t p (Some d) h = resume_bounded s.shares (usable_at s r) d p (register_at r t) t.book h

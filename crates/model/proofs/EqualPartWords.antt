@@ -3,12 +3,13 @@
 use mathlib.Core.Path.{◌≡◌, refl, ap, sym, ◌∙◌, subst}
 use mathlib.Core.Bool.{true, false}
 use mathlib.Core.List.{List, [], ◌∷◌, ◌++◌}
-use mathlib.Core.Option.{Option, none, some}
+use Rattle.std.specs.Prelude.{Option, Some, None}
 use Prim.Native.Nat.{ℕ, ◌≤◌}
 use lib.Dec.{eqb}
 use lib.ListN.{length}
 use borrow.Author.Tests.{eqb-true}
 use Rattle.model.specs.Answer.{Refused, Said}
+use Rattle.model.specs.declared.Manner.TheVariants.{Judged, Taken, TakenBatch}
 use Rattle.model.specs.declared.Verdict.TheVariants.{New}
 use Rattle.model.specs.declared.Settings.{Settings}
 use Rattle.model.specs.declared.Shares.{Shares}
@@ -17,7 +18,7 @@ use Rattle.model.specs.Settings.{settings_of, limits_of, usable_at, settings_fit
 use Rattle.model.specs.Book.{Place, together, places_of}
 use Rattle.model.specs.Words.{State}
 use Rattle.model.specs.Judge.{judge, take, take_batch}
-use Rattle.model.specs.Calls.{Asking, judged, taken, taken_batch, Ticket, Call, Open, On, Kind, Opens, OnOne, Sets, Other, opens, kind, ask_of, register_at}
+use Rattle.model.specs.Calls.{Asking, Ticket, Call, Open, On, Kind, Opens, OnOne, Sets, Other, opens, kind, ask_of, register_at}
 use Rattle.model.specs.Calls.{opened, after_judged, after_taken, asked, done_on, step, is_open, sound, held_in, refused, reply, after}
 use Rattle.model.specs.View.{Given, answered, left_by, words_after}
 use Rattle.model.specs.Codes.{went_through}
@@ -44,8 +45,8 @@ pub record Tied (x : Since) (ws : List ℕ) : Type 0 where
   pub bounded : x.unchanged ≡ true → Bounded x.settings.shares x.state.book
 
 abbrev pub TiedIf : Option Since → List ℕ → Type 0
-TiedIf none ws = Unit {0}
-TiedIf (some x) ws = Tied x ws
+TiedIf None ws = Unit {0}
+TiedIf (Some x) ws = Tied x ws
 
 -- words are sound under one settings alone
 same_settings : (x : Since) (ws : List ℕ) → Tied x ws → (st : List ℕ) → Vetted st ws → settings_of st ≡ x.settings
@@ -77,28 +78,28 @@ refused_stays st ws call h =
 
 -- judge answers New: nothing refuses, and the rules judge it New
 pub record JudgedNew (st ws : List ℕ) (r : ℕ) (a : Asking) : Type 0 where
-  pub passed : eqb (refused st ws (On r (Ticket judged a))) 0 ≡ true
+  pub passed : eqb (refused st ws (On r (Ticket Judged a))) 0 ≡ true
   pub new : (judge (usable_at (settings_of st) r) (register_at r (held_in (settings_of st) ws)) (ask_of a)).says ≡ New
 
-pub judged_new : (st ws : List ℕ) (r : ℕ) (a : Asking) → reply st ws (On r (Ticket judged a)) ≡ Said New → JudgedNew st ws r a
+pub judged_new : (st ws : List ℕ) (r : ℕ) (a : Asking) → reply st ws (On r (Ticket Judged a)) ≡ Said New → JudgedNew st ws r a
 unfolding reply step done_on asked after_judged
 judged_new st ws r a e =
-    by_test (eqb (refused st ws (On r (Ticket judged a))) 0)
+    by_test (eqb (refused st ws (On r (Ticket Judged a))) 0)
     (λ t.
     let q : Said (judge (usable_at (settings_of st) r) (register_at r (held_in (settings_of st) ws)) (ask_of a)).says ≡ Said New = rw t at e in
     record { passed = t; new = (cc) })
-    (λ t. let q : Refused (refused st ws (On r (Ticket judged a))) ≡ Said New = rw t at e in no (cc))
+    (λ t. let q : Refused (refused st ws (On r (Ticket Judged a))) ≡ Said New = rw t at e in no (cc))
 
-module _ (st ws : List ℕ) (r : ℕ) (a : Asking) (passed : eqb (refused st ws (On r (Ticket judged a))) 0 ≡ true) where
-  pub take_says : reply st ws (On r (Ticket taken a))
+module _ (st ws : List ℕ) (r : ℕ) (a : Asking) (passed : eqb (refused st ws (On r (Ticket Judged a))) 0 ≡ true) where
+  pub take_says : reply st ws (On r (Ticket Taken a))
       ≡ Said (take (usable_at (settings_of st) r) (settings_of st).shares (register_at r (held_in (settings_of st) ws)) (held_in (settings_of st) ws).book (ask_of a)).says
   unfolding reply step done_on asked after_taken
-  take_says = rw (same_refusal st ws r a taken judged, passed)
+  take_says = rw (same_refusal st ws r a Taken Judged, passed)
 
-  pub take_batch_says : reply st ws (On r (Ticket taken_batch a))
+  pub take_batch_says : reply st ws (On r (Ticket TakenBatch a))
       ≡ Said (take_batch (usable_at (settings_of st) r) (settings_of st).shares (register_at r (held_in (settings_of st) ws)) (held_in (settings_of st) ws).book (ask_of a)).says
   unfolding reply step done_on asked after_taken
-  take_batch_says = rw (same_refusal st ws r a taken_batch judged, passed)
+  take_batch_says = rw (same_refusal st ws r a TakenBatch Judged, passed)
 
 -- ---- an opening ties the words to what it opens
 pub opening_ties : (ws st : List ℕ) (call : Call) (limits starts : List ℕ) → kind call ≡ Opens limits starts → went_through (reply st ws call) ≡ true
@@ -123,7 +124,7 @@ opening_holds st ws limits starts through = (simulates ws (record { settings = s
 
 -- ---- any later call that went through leaves them tied
 pub later_ties : (x : Since) (ws : List ℕ) (g : Given) → is_open g.call ≡ false → went_through (answered ws g) ≡ true → Tied x ws
-    → TiedIf (and_then g.call (some x)) (left_by ws g)
+    → TiedIf (and_then g.call (Some x)) (left_by ws g)
 unfolding step limits_stay
 later_ties x ws g shut through t =
     let m = simulates ws g through in
@@ -141,8 +142,8 @@ later_ties x ws g shut through t =
 
 then_ties : (k : Option Since) (ws : List ℕ) (g : Given) → is_open g.call ≡ false → went_through (answered ws g) ≡ true → TiedIf k ws
     → TiedIf (and_then g.call k) (left_by ws g)
-then_ties none ws g shut through t = tt
-then_ties (some x) ws g shut through t = later_ties x ws g shut through t
+then_ties None ws g shut through t = tt
+then_ties (Some x) ws g shut through t = later_ties x ws g shut through t
 
 through_ties : (k : Option Since) (ws st : List ℕ) (call : Call) → went_through (reply st ws call) ≡ true → TiedIf k ws
     → TiedIf (gone_through (settings_of st) call k) (after st ws call)
@@ -171,24 +172,24 @@ pub due : (x : Since) (ws : List ℕ) → Tied x ws → Promised x ws
 unfolding went_through is_open answer_due
 due x ws t unchanged st r a says d =
     let n = judged_new st ws r a says in
-    let through : went_through (reply st ws (On r (Ticket judged a))) ≡ true = rw says refl in
-    let e : settings_of st ≡ x.settings = same_settings x ws t st (vetted_before st ws (On r (Ticket judged a)) refl through) in
+    let through : went_through (reply st ws (On r (Ticket Judged a))) ≡ true = rw says refl in
+    let e : settings_of st ≡ x.settings = same_settings x ws t st (vetted_before st ws (On r (Ticket Judged a)) refl through) in
     let u = usable_at x.settings r in
     let reg = register_at r x.state in
     let new = read_under x ws t st e (λ (s : Settings) (y : State). (judge (usable_at s r) (register_at r y) (ask_of a)).says ≡ New) n.new in
     record {
       from_take = read_under x ws t st e
-          (λ (s : Settings) (y : State). reply st ws (On r (Ticket taken a)) ≡ Said (take (usable_at s r) s.shares (register_at r y) y.book (ask_of a)).says)
+          (λ (s : Settings) (y : State). reply st ws (On r (Ticket Taken a)) ≡ Said (take (usable_at s r) s.shares (register_at r y) y.book (ask_of a)).says)
           (take_says st ws r a n.passed)
           ∙ ap Said (take_due u x.settings.shares reg x.state.book (ask_of a) d (t.bounded unchanged) new);
       from_take_batch = read_under x ws t st e
-          (λ (s : Settings) (y : State). reply st ws (On r (Ticket taken_batch a)) ≡ Said (take_batch (usable_at s r) s.shares (register_at r y) y.book (ask_of a)).says)
+          (λ (s : Settings) (y : State). reply st ws (On r (Ticket TakenBatch a)) ≡ Said (take_batch (usable_at s r) s.shares (register_at r y) y.book (ask_of a)).says)
           (take_batch_says st ws r a n.passed)
           ∙ ap Said (take_batch_due u x.settings.shares reg x.state.book (ask_of a) d (t.bounded unchanged) new);
     }
 
-tied_after : (start : List ℕ) (calls : List Given) (x : Since) → since_opening none start calls ≡ some x → Tied x (words_after start calls)
-tied_after start calls x e = subst (λ (k : Option Since). TiedIf k (words_after start calls)) e (list_ties calls none start tt)
+tied_after : (start : List ℕ) (calls : List Given) (x : Since) → since_opening None start calls ≡ Some x → Tied x (words_after start calls)
+tied_after start calls x e = subst (λ (k : Option Since). TiedIf k (words_after start calls)) e (list_ties calls None start tt)
 
 -- demand 3, second half
 pub equal_part : (start : List ℕ) (calls : List Given) → EqualPart start calls
@@ -198,7 +199,7 @@ equal_part start calls x e = due x (words_after start calls) (tied_after start c
 pub words_hold : (start : List ℕ) (calls : List Given) → WordsHold start calls
 words_hold start calls x e =
     let t = tied_after start calls x e in
-    view_sound x.settings t.fit t.trimmed (words_after start calls) t.long t.sound ∙ ap some t.holds
+    view_sound x.settings t.fit t.trimmed (words_after start calls) t.long t.sound ∙ ap Some t.holds
 
 each_append : (b : Shares) (ps qs : List Place) → each_units b (ps ++ qs) ≡ each_units b ps ++ each_units b qs
 each_append b [] qs = refl

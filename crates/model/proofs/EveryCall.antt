@@ -2,13 +2,15 @@
 use Prim.Native.Nat.{ℕ, ◌<◌}
 use mathlib.Core.Path.{◌≡◌, refl, ap, ◌∙◌}
 use mathlib.Core.Bool.{Bool, true, false, cond, ◌&&◌}
-use mathlib.Core.Option.{Option, none, some}
+use Rattle.std.specs.Prelude.{Option, Some, None}
 use lib.Dec.{leb, eqb}
 use lib.ListN.{get_or, set}
 use lib.Seq.{get_or-set_other}
 use borrow.Author.Tests.{eqb-false, leb-false}
 use Rattle.model.specs.Answer.{Answer}
 use Rattle.model.specs.Answer.{Begun, Already}
+use Rattle.model.specs.declared.Manner.{Manner}
+use Rattle.model.specs.declared.Manner.TheVariants.{Judged, JudgedBatch, Taken, TakenBatch}
 use Rattle.model.specs.declared.Settings.{Settings}
 use Rattle.runs.proofs.Cases.{split_if, no}
 use Rattle.model.specs.Settings.{limits_of, usable_at}
@@ -18,7 +20,7 @@ use Rattle.model.specs.Dump.{Dump, read_dump, Restoring}
 use Rattle.model.specs.Judge.{Ask}
 use Rattle.model.specs.Words.{State}
 use Rattle.model.specs.Codes.{went_through}
-use Rattle.model.specs.Calls.{Manner, judged, judged_batch, taken, taken_batch, Deed, Ticket, ContainsHash, Begin, Sweep, DumpTo, Restore, Resume, Floor, Pending}
+use Rattle.model.specs.Calls.{Deed, Ticket, ContainsHash, Begin, Sweep, DumpTo, Restore, Resume, Floor, Pending}
 use Rattle.model.specs.Calls.{SweptBucket, ViewRegister, Explain, StampFor, ViewDeliverer, Call, Open, On, Expire, SetLimits, Close, HeldBy, ClassTotals}
 use Rattle.model.specs.Calls.{no_register, register_at, opened, yes_no, floor_answer, sought, stamp_answer}
 use Rattle.model.specs.Calls.{Asking, manner_sort, ask_of, reading_of_ask, proven_of, asked, after_judged}
@@ -56,13 +58,13 @@ yes_no_through false = refl
 
 floor_through : (f : Option ℕ) → Through (floor_answer f)
 unfolding went_through
-floor_through none = refl
-floor_through (some f) = refl
+floor_through None = refl
+floor_through (Some f) = refl
 
 stamp_through : (x : Option ℕ) → Through (stamp_answer x)
 unfolding went_through
-stamp_through none = refl
-stamp_through (some x) = refl
+stamp_through None = refl
+stamp_through (Some x) = refl
 
 begun_through : (b : Bool) → Through (cond b Begun Already)
 unfolding went_through
@@ -75,36 +77,36 @@ after_through r t d w = split_if Through w.whole (λ e. refl) (λ e. refl)
 
 restored_through : (s : Settings) (r : ℕ) (t : State) (d : Option Dump) → Through (restored s r t d).answer
 unfolding restored went_through
-restored_through s r t none = refl
-restored_through s r t (some d) = after_through r t d _
+restored_through s r t None = refl
+restored_through s r t (Some d) = after_through r t d _
 
 resumed_through : (s : Settings) (r : ℕ) (t : State) (p : Option ℕ) (d : Option Dump) → Through (resumed s r t p d).answer
 unfolding resumed went_through
-resumed_through s r t p none = refl
-resumed_through s r t p (some d) = after_through r t d _
+resumed_through s r t p None = refl
+resumed_through s r t p (Some d) = after_through r t d _
 
 asked_through : (s : Settings) (r : ℕ) (m : Manner) (a : Ask) (t : State) → Through (asked s r m a t).answer
 unfolding asked after_judged after_taken went_through
-asked_through s r judged a t = refl
-asked_through s r judged_batch a t = refl
-asked_through s r taken a t = refl
-asked_through s r taken_batch a t = refl
+asked_through s r Judged a t = refl
+asked_through s r JudgedBatch a t = refl
+asked_through s r Taken a t = refl
+asked_through s r TakenBatch a t = refl
 
 -- ---- a ticket gets a verdict
 asked_verdict : (s : Settings) (r : ℕ) (m : Manner) (a : Ask) (t : State) → Verdicts (asked s r m a t).answer
 unfolding asked after_judged after_taken
-asked_verdict s r judged a t = record { verdict = _; said = refl }
-asked_verdict s r judged_batch a t = record { verdict = _; said = refl }
-asked_verdict s r taken a t = record { verdict = _; said = refl }
-asked_verdict s r taken_batch a t = record { verdict = _; said = refl }
+asked_verdict s r Judged a t = record { verdict = _; said = refl }
+asked_verdict s r JudgedBatch a t = record { verdict = _; said = refl }
+asked_verdict s r Taken a t = record { verdict = _; said = refl }
+asked_verdict s r TakenBatch a t = record { verdict = _; said = refl }
 
 -- ---- a take's reading
-asked_brings : (m : Manner) (a : Asking) (ms : ℕ) → sort_taking (manner_sort m a) ≡ some ms → reading_of_ask (ask_of a) ≡ some ms
+asked_brings : (m : Manner) (a : Asking) (ms : ℕ) → sort_taking (manner_sort m a) ≡ Some ms → reading_of_ask (ask_of a) ≡ Some ms
 unfolding sort_taking manner_sort
-asked_brings judged a ms e = absurd (none_some e)
-asked_brings judged_batch a ms e = absurd (none_some e)
-asked_brings taken a ms e = e
-asked_brings taken_batch a ms e = e
+asked_brings Judged a ms e = absurd (none_some e)
+asked_brings JudgedBatch a ms e = absurd (none_some e)
+asked_brings Taken a ms e = e
+asked_brings TakenBatch a ms e = e
 
 -- ---- the registers that a call is not on
 module _ (s : Settings) (q r : ℕ) (other : q ≡ r → ⊥) where
@@ -113,20 +115,20 @@ module _ (s : Settings) (q r : ℕ) (other : q ≡ r → ⊥) where
 
   asked_aside : (m : Manner) (a : Ask) (t : State) → register_at q (asked s r m a t).state ≡ register_at q t
   unfolding asked after_judged after_taken
-  asked_aside judged a t = elsewhere _ t
-  asked_aside judged_batch a t = elsewhere _ t
-  asked_aside taken a t = elsewhere _ t
-  asked_aside taken_batch a t = elsewhere _ t
+  asked_aside Judged a t = elsewhere _ t
+  asked_aside JudgedBatch a t = elsewhere _ t
+  asked_aside Taken a t = elsewhere _ t
+  asked_aside TakenBatch a t = elsewhere _ t
 
   restored_aside : (t : State) (d : Option Dump) → register_at q (restored s r t d).state ≡ register_at q t
   unfolding restored after_restored
-  restored_aside t none = refl
-  restored_aside t (some d) = elsewhere _ t
+  restored_aside t None = refl
+  restored_aside t (Some d) = elsewhere _ t
 
   resumed_aside : (t : State) (p : Option ℕ) (d : Option Dump) → register_at q (resumed s r t p d).state ≡ register_at q t
   unfolding resumed after_restored
-  resumed_aside t p none = refl
-  resumed_aside t p (some d) = elsewhere _ t
+  resumed_aside t p None = refl
+  resumed_aside t p (Some d) = elsewhere _ t
 
 -- what is so on register r alone, and not of register q
 other_than : (q r : ℕ) → (eqb q r && true) ≡ false → q ≡ r → ⊥

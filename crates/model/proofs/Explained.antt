@@ -3,6 +3,8 @@ use Prim.Native.Nat.{ℕ}
 use mathlib.Core.Path.{◌≡◌, refl, sym, ◌∙◌, ap}
 use mathlib.Core.List.{List}
 use Rattle.model.specs.Answer.{Said, Because}
+use Rattle.model.specs.declared.Manner.{Manner}
+use Rattle.model.specs.declared.Manner.TheVariants.{Taken, TakenBatch}
 use Rattle.model.specs.declared.Reason.{Reason}
 use Rattle.model.specs.declared.Reason.TheVariants.{Accepted}
 use Rattle.model.specs.declared.Settings.{Settings}
@@ -12,7 +14,7 @@ use Rattle.model.specs.Words.{State}
 use Rattle.model.specs.Codes.{reason_verdict, went_through}
 use Rattle.model.specs.First.{first_of}
 use Rattle.model.specs.Reason.{first_rule, reason, batch_verdict}
-use Rattle.model.specs.Calls.{Manner, taken, taken_batch, Asking, Ticket, Explain, On, ask_of, register_at, after_taken, asked, done_on, step, held_in, refused, reply}
+use Rattle.model.specs.Calls.{Asking, Ticket, Explain, On, ask_of, register_at, after_taken, asked, done_on, step, held_in, refused, reply}
 use Rattle.model.specs.Calls.{deed_fits, codes_fit, is_open, unfit, unsound, no_such_register, deed_refusals, own_refusals}
 use Rattle.model.specs.Explained.{rules_in, Explained, ExplainedBatch}
 use Rattle.model.proofs.First.{named_is, is_named}
@@ -47,16 +49,16 @@ module _ (st ws : List ℕ) (r : ℕ) (a : Asking) where
     unfolding step done_on
     explain_says = reply_is st ws (On r (Explain a)) z
 
-    take_reply : reply st ws (On r (Ticket taken a)) ≡ Said (reason_verdict why)
+    take_reply : reply st ws (On r (Ticket Taken a)) ≡ Said (reason_verdict why)
     unfolding step done_on asked after_taken
     take_reply =
-        reply_is st ws (On r (Ticket taken a)) (sym (explain_refused taken) ∙ z)
+        reply_is st ws (On r (Ticket Taken a)) (sym (explain_refused Taken) ∙ z)
         ∙ ap Said (take_says u s.shares (register_at r t) t.book (ask_of a))
 
-    batch_reply : reply st ws (On r (Ticket taken_batch a)) ≡ Said (batch_verdict u (ask_of a) why)
+    batch_reply : reply st ws (On r (Ticket TakenBatch a)) ≡ Said (batch_verdict u (ask_of a) why)
     unfolding step done_on asked after_taken
     batch_reply =
-        reply_is st ws (On r (Ticket taken_batch a)) (sym (explain_refused taken_batch) ∙ z)
+        reply_is st ws (On r (Ticket TakenBatch a)) (sym (explain_refused TakenBatch) ∙ z)
         ∙ ap Said (batch_says u s.shares (register_at r t) t.book (ask_of a))
 
   -- ---- where a rule is named

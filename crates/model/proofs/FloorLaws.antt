@@ -4,7 +4,7 @@ use native.Mathlib.Omega.{arith}
 use mathlib.Core.Path.{◌≡◌, refl, sym, ◌∙◌, ap, subst}
 use mathlib.Core.Bool.{Bool, true, not}
 use mathlib.Core.List.{List, [], ◌∷◌}
-use mathlib.Core.Option.{Option, none, some}
+use Rattle.std.specs.Prelude.{Option, Some, None}
 use lib.Dec.{eqb, ltb}
 use lib.ListN.{length, get_or, set, get_or-eq_default}
 use lib.Seq.{get_or-set_same, get_or-set_other}
@@ -12,6 +12,8 @@ use borrow.Author.Tests.{eqb-true, eqb-false, leb-true, ltb-true, ltb-false}
 use Rattle.model.specs.declared.Class.{Class}
 use Rattle.model.specs.declared.Class.TheVariants.{Feeders, Peers, Own}
 use Rattle.model.specs.declared.Deliverer.TheVariants.{Restored}
+use Rattle.model.specs.declared.Manner.{Manner}
+use Rattle.model.specs.declared.Manner.TheVariants.{Judged, JudgedBatch, Taken as TakenManner, TakenBatch}
 use Rattle.model.specs.declared.Room.{Room}
 use Rattle.model.specs.declared.Room.TheVariants.{At, Collides, Full as NoSlots}
 use Rattle.model.specs.declared.Settings.{Settings}
@@ -26,7 +28,7 @@ use Rattle.model.specs.Register.{Register, strike, sweep, begin}
 use Rattle.model.specs.Judge.{Ask, unjudged, Judgement, judge, judge_batch, Taken, take_room, take_judged, take, take_batch}
 use Rattle.model.specs.Dump.{Dumped, Dump, Holding, hold_room, hold_one, hold_all, failed, Restoring, settled, restore_class, raised_to_dumped, restore, raised_to_proven, resume}
 use Rattle.model.specs.Words.{State}
-use Rattle.model.specs.Calls.{Manner, judged, judged_batch, taken, taken_batch, no_register, register_at, with_register, after_judged, after_taken, asked, after_restored, restored}
+use Rattle.model.specs.Calls.{no_register, register_at, with_register, after_judged, after_taken, asked, after_restored, restored}
 use Rattle.model.specs.Misreadings.{NoLower}
 use Rattle.model.proofs.Misreadings.{same, raised, floor_stands}
 use Rattle.model.proofs.Judging.{taken_cases}
@@ -38,8 +40,8 @@ Stands f reg = NoLower f reg.floor
 -- a floor is at least what it was raised to
 pub raised_to : (n : ℕ) (floor : Option ℕ) → NoLower n (raise floor n)
 unfolding raise
-raised_to n none = record { level = n; there = refl; no_lower = omega arith }
-raised_to n (some f) = record { level = max f n; there = refl; no_lower = omega arith }
+raised_to n None = record { level = n; there = refl; no_lower = omega arith }
+raised_to n (Some f) = record { level = max f n; there = refl; no_lower = omega arith }
 
 -- and at least what is no larger
 pub lower : (n m : ℕ) (floor : Option ℕ) → n ≤ m → NoLower m floor → NoLower n floor
@@ -51,8 +53,8 @@ raised_past n m floor h = lower n m _ h (raised_to m floor)
 -- a stamp at or below the floor
 pub under_stands : (t : ℕ) (floor : Option ℕ) → under t floor ≡ true → NoLower t floor
 unfolding under
-under_stands t none p = no (cc)
-under_stands t (some f) p = record { level = f; there = refl; no_lower = leb-true t f p }
+under_stands t None p = no (cc)
+under_stands t (Some f) p = record { level = f; there = refl; no_lower = leb-true t f p }
 
 -- ---- sweep, judge, take, begin
 pub sweep_stands : (u : Usable) (ms : ℕ) (reg : Register) (f : ℕ) → Stands f reg → Stands f (sweep u ms reg)
@@ -119,38 +121,38 @@ module _ (u : Usable) (b : Shares) (f : ℕ) where
       (class_stands Peers d.classes.of_peers _ (class_stands Feeders d.classes.of_feeders _ (dumped_stands d.floor reg s)))
 
 -- ---- resume: at least the proven floor
-pub resume_proves : (u : Usable) (b : Shares) (d : Dump) (proven : ℕ) (reg : Register) (k : Book) → Stands proven (resume u b d (some proven) reg k).register
+pub resume_proves : (u : Usable) (b : Shares) (d : Dump) (proven : ℕ) (reg : Register) (k : Book) → Stands proven (resume u b d (Some proven) reg k).register
 unfolding resume raised_to_proven
 resume_proves u b d proven reg k = raised_to proven _
 
 -- ---- another register in place of register r: the floor of register q
 module _ (r : ℕ) (reg : Register) (t : State) where
-  pub put_stands : (q f : ℕ) → (Stands f (register_at r t) → Stands f reg) → (register_at q t).floor ≡ some f → Stands f (register_at q (with_register r reg t))
+  pub put_stands : (q f : ℕ) → (Stands f (register_at r t) → Stands f reg) → (register_at q t).floor ≡ Some f → Stands f (register_at q (with_register r reg t))
   put_stands q f g h =
       by_test (eqb q r)
       (λ e. let i : q ≡ r = eqb-true q r e in
       by_test (ltb r (length t.registers))
       (λ l. subst (λ (j : ℕ). Stands f (get_or (set t.registers r reg) j no_register)) (sym i)
       (subst (λ (x : Register). Stands f x) (sym (get_or-set_same t.registers r reg no_register (ltb-true r (length t.registers) l)))
-      (g (same f _ (subst (λ (j : ℕ). (register_at j t).floor ≡ some f) i h)))))
-      (λ l. let z : none ≡ some f =
+      (g (same f _ (subst (λ (j : ℕ). (register_at j t).floor ≡ Some f) i h)))))
+      (λ l. let z : None ≡ Some f =
       sym (ap (λ (x : Register). x.floor) (get_or-eq_default t.registers no_register (ltb-false r (length t.registers) l)))
-      ∙ subst (λ (j : ℕ). (register_at j t).floor ≡ some f) i h in
+      ∙ subst (λ (j : ℕ). (register_at j t).floor ≡ Some f) i h in
       no (cc)))
       (λ e. subst (λ (x : Register). Stands f x) (sym (get_or-set_other t.registers r q reg no_register (eqb-false q r e))) (same f _ h))
 
 -- ---- a call about a ticket, and a restore
-module _ (s : Settings) (r : ℕ) (t : State) (q f : ℕ) (h : (register_at q t).floor ≡ some f) where
+module _ (s : Settings) (r : ℕ) (t : State) (q f : ℕ) (h : (register_at q t).floor ≡ Some f) where
   pub asked_stands : (m : Manner) (a : Ask) → Stands f (register_at q (asked s r m a t).state)
   unfolding asked after_judged after_taken judge_batch take take_batch
-  asked_stands judged a = put_stands r _ t q f (λ k. judge_stands (usable_at s r) (register_at r t) a f k) h
-  asked_stands judged_batch a = put_stands r _ t q f (λ k. judge_stands (usable_at s r) (register_at r t) a f k) h
-  asked_stands taken a =
+  asked_stands Judged a = put_stands r _ t q f (λ k. judge_stands (usable_at s r) (register_at r t) a f k) h
+  asked_stands JudgedBatch a = put_stands r _ t q f (λ k. judge_stands (usable_at s r) (register_at r t) a f k) h
+  asked_stands TakenManner a =
       put_stands r _ t q f (λ k. rest_stands (usable_at s r) s.shares a t.book _ f (judge_stands (usable_at s r) (register_at r t) a f k) _) h
-  asked_stands taken_batch a =
+  asked_stands TakenBatch a =
       put_stands r _ t q f (λ k. rest_stands (usable_at s r) s.shares a t.book _ f (judge_stands (usable_at s r) (register_at r t) a f k) _) h
 
   pub restored_stands : (d : Option Dump) → Stands f (register_at q (restored s r t d).state)
   unfolding restored after_restored
-  restored_stands none = same f _ h
-  restored_stands (some d) = put_stands r _ t q f (λ k. restore_stands (usable_at s r) s.shares f d (register_at r t) t.book k) h
+  restored_stands None = same f _ h
+  restored_stands (Some d) = put_stands r _ t q f (λ k. restore_stands (usable_at s r) s.shares f d (register_at r t) t.book k) h

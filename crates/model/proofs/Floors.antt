@@ -5,7 +5,7 @@ use native.Mathlib.Omega.{arith}
 use mathlib.Core.Path.{◌≡◌, refl, sym, ◌∙◌, ap, subst}
 use mathlib.Core.Bool.{true, false, ◌&&◌}
 use mathlib.Core.List.{List, [], ◌∷◌}
-use mathlib.Core.Option.{Option, none, some}
+use Rattle.std.specs.Prelude.{Option, Some, None}
 use lib.Dec.{eqb}
 use lib.ListN.{length}
 use lib.Seq.{get_or-set_same}
@@ -40,9 +40,9 @@ pub record Stands (st ws : List ℕ) (r f : ℕ) : Type 0 where
   pub floor : NoLower f (register_at r (held_in (settings_of st) ws)).floor
 
 -- ---- the floor that is told
-answer_floor : (o : Option ℕ) (f : ℕ) → floor_answer o ≡ FloorAt f → o ≡ some f
-answer_floor none f e = no (cc)
-answer_floor (some g) f e = cc
+answer_floor : (o : Option ℕ) (f : ℕ) → floor_answer o ≡ FloorAt f → o ≡ Some f
+answer_floor None f e = no (cc)
+answer_floor (Some g) f e = cc
 
 module _ (st ws : List ℕ) (r : ℕ) where
   told_stands : (f : ℕ) → reply st ws (On r Floor) ≡ FloorAt f → Stands st ws r f
@@ -137,10 +137,10 @@ floors_never_fall ws st r f calls said none-forgets =
 
 -- ---- resume
 module _ (s : Settings) (r : ℕ) (t : State) (low : r < length t.registers) where
-  resumed_proves : (proven : ℕ) (d : Option Dump) → is_cut d ≡ false → NoLower proven (register_at r (resumed s r t (some proven) d).state).floor
+  resumed_proves : (proven : ℕ) (d : Option Dump) → is_cut d ≡ false → NoLower proven (register_at r (resumed s r t (Some proven) d).state).floor
   unfolding resumed after_restored is_cut
-  resumed_proves proven none e = no (cc)
-  resumed_proves proven (some d) e =
+  resumed_proves proven None e = no (cc)
+  resumed_proves proven (Some d) e =
       subst (λ (x : Register). NoLower proven x.floor) (sym (get_or-set_same t.registers r _ no_register low))
       (resume_proves (usable_at s r) s.shares d proven (register_at r t) t.book)
 

@@ -3,7 +3,7 @@
 use Prim.Native.Nat.{ℕ, ◌<◌}
 use mathlib.Core.Path.{◌≡◌, refl, sym, ◌∙◌, ap, subst}
 use mathlib.Core.Bool.{Bool, true, false, not, ◌&&◌}
-use mathlib.Core.Option.{Option, none, some}
+use Rattle.std.specs.Prelude.{Option, Some, None}
 use mathlib.Core.List.{List}
 use lib.ListN.{get_or}
 use borrow.Author.Tests.{not-true}
@@ -35,13 +35,13 @@ use Rattle.model.proofs.SteadyKept.{FreshKept, left_fresh}
 abbrev pub StruckIn : Settings → Strike → State → Type 0
 StruckIn s k x = Struck (bucket_of (usable_at s k.register) k.stamp) k.print k.stamp (register_at k.register x)
 
-pub none_some : {A : Type 0} {x : A} → ◌≡◌ {A = Option A} none (some x) → ⊥
+pub none_some : {A : Type 0} {x : A} → ◌≡◌ {A = Option A} None (Some x) → ⊥
 none_some e = no (cc)
 
 -- what one call owes to a struck ticket: unless it remakes the register the ticket stays struck, and it does not answer New
 pub record Good (s : Settings) (k : Strike) (m : Meaning) (x : State) : Type 0 where
   pub keeps : remakes k.register m.kind (m.does s x).answer ≡ false → StruckIn s k (m.does s x).state
-  pub silent : asks_about m.kind ≡ some k → (m.does s x).answer ≡ Said New → ⊥
+  pub silent : asks_about m.kind ≡ Some k → (m.does s x).answer ≡ Said New → ⊥
 
 -- what a call owes that only reads
 pub record Reads (m : Meaning) : Type 0 where
@@ -50,7 +50,7 @@ pub record Reads (m : Meaning) : Type 0 where
 
 -- register q has a floor of f: then afterwards it has one that is no lower
 abbrev pub FloorKept : Meaning → Settings → State → ℕ → Type 0
-FloorKept m s t q = (f : ℕ) → (register_at q t).floor ≡ some f → NoLower f (register_at q (m.does s t).state).floor
+FloorKept m s t q = (f : ℕ) → (register_at q t).floor ≡ Some f → NoLower f (register_at q (m.does s t).state).floor
 
 pub record Lawful (m : Meaning) : Type 0 where
   -- its own answer is no refusal, and its own refusals come in the paper's order
@@ -69,16 +69,16 @@ pub record Lawful (m : Meaning) : Type 0 where
   -- it is good to a struck ticket, and a take that answers New strikes its own
   pub guards : (s : Settings) (k : Strike) (x : State) → 0 < k.print → settings_fit s ≡ true → beyond s m.kind ≡ false
       → (state_form s).Ok x → StruckIn s k x → Good s k m x
-  pub strikes : (s : Settings) (k : Strike) (x : State) → beyond s m.kind ≡ false → (state_form s).Ok x → takes m.kind ≡ some k
+  pub strikes : (s : Settings) (k : Strike) (x : State) → beyond s m.kind ≡ false → (state_form s).Ok x → takes m.kind ≡ Some k
       → (m.does s x).answer ≡ Said New → (0 < k.print) × StruckIn s k (m.does s x).state
   -- a ticket gets a verdict
-  pub verdicts : (s : Settings) (t : State) (k : Strike) → asks_about m.kind ≡ some k → Verdicts (m.does s t).answer
+  pub verdicts : (s : Settings) (t : State) (k : Strike) → asks_about m.kind ≡ Some k → Verdicts (m.does s t).answer
   -- one that only reads leaves the state
   pub reads : m.reads ≡ true → Reads m
   -- it lowers no floor, unless it opens, or resumes on that register
   pub floors : (s : Settings) (t : State) (q : ℕ) → forgets q m.kind ≡ false → FloorKept m s t q
   -- a take's reading is one by which it sweeps
-  pub brought : (ms : ℕ) → kind_taking m.kind ≡ some ms → m.reading ≡ some ms
+  pub brought : (ms : ℕ) → kind_taking m.kind ≡ Some ms → m.reading ≡ Some ms
   -- it keeps what a take needs not to be Late for its position, unless it opens, or restores or resumes on that register
   pub fresh : (s : Settings) (t : State) (q : ℕ) → settings_fit s ≡ true → q < s.registers → (state_form s).Ok t → disturbs q m.kind ≡ false
       → FreshKept m s t q
@@ -95,9 +95,9 @@ unasked (Sets limits) = true
 unasked Other = true
 
 pub record AsksNothing (k : Kind) : Type 0 where
-  pub asks : asks_about k ≡ none
-  pub takes : takes k ≡ none
-  pub taking : kind_taking k ≡ none
+  pub asks : asks_about k ≡ None
+  pub takes : takes k ≡ None
+  pub taking : kind_taking k ≡ None
   pub shut : opens k ≡ false
   pub opens_none : (limits starts : List ℕ) → k ≡ Opens limits starts → ⊥
 

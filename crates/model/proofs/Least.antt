@@ -4,7 +4,7 @@ use native.Mathlib.Omega.{arith}
 use mathlib.Core.Path.{◌≡◌, refl}
 use mathlib.Core.Bool.{Bool, true, false, ◌&&◌}
 use mathlib.Core.List.{List, [], ◌∷◌, ◌++◌}
-use mathlib.Core.Option.{Option, none, some}
+use Rattle.std.specs.Prelude.{Option, Some, None}
 use lib.Dec.{leb}
 use borrow.Author.Tests.{leb-true, leb-false, ltb-true, ltb-false}
 use Rattle.runs.proofs.Cases.{by_test, split_if, both_true}
@@ -43,18 +43,18 @@ all_append P (x ∷ xs) ys h k = (h.0, all_append P xs ys h.1 k)
 
 -- ---- what was found is no more than c
 abbrev pub UpTo : ℕ → Option ℕ → Type 0
-UpTo c none = ⊥
-UpTo c (some x) = x ≤ c
+UpTo c None = ⊥
+UpTo c (Some x) = x ≤ c
 
 module _ (meets : ℕ → Bool) where
   -- one more stamp raises nothing, and is reached itself where it meets the test
   not_below : (x : ℕ) (best : Option ℕ) → below x best ≡ false → UpTo x best
-  not_below x none e = true_false refl e
-  not_below x (some b) e = ltb-false x b e
+  not_below x None e = true_false refl e
+  not_below x (Some b) e = ltb-false x b e
 
   lower : (c x : ℕ) (best : Option ℕ) → below x best ≡ true → UpTo c best → x ≤ c
-  lower c x none e h = absurd h
-  lower c x (some b) e h = omega (arith, ltb-true x b e)
+  lower c x None e h = absurd h
+  lower c x (Some b) e h = omega (arith, ltb-true x b e)
 
   better_keeps : (c x : ℕ) (best : Option ℕ) → UpTo c best → UpTo c (better meets x best)
   unfolding better
@@ -82,8 +82,8 @@ module _ (meets : ℕ → Bool) where
   -- and what was found is one of them
   module _ (P : ℕ → Type 0) where
     abbrev pub HasIt : Option ℕ → Type 0
-    HasIt none = Unit {0}
-    HasIt (some x) = P x
+    HasIt None = Unit {0}
+    HasIt (Some x) = P x
 
     better_has : (x : ℕ) (best : Option ℕ) → (meets x ≡ true → P x) → HasIt best → HasIt (better meets x best)
     unfolding better

@@ -5,7 +5,7 @@ use native.Mathlib.Omega.{arith}
 use mathlib.Core.Path.{◌≡◌, refl, sym, subst}
 use mathlib.Core.Bool.{Bool, true, false, not}
 use mathlib.Core.List.{List, [], ◌∷◌}
-use mathlib.Core.Option.{Option, none, some}
+use Rattle.std.specs.Prelude.{Option, Some, None}
 use lib.Seq.{get_or-set_same}
 use borrow.Author.Tests.{leb-false, leb-true, le-leb}
 use Rattle.model.specs.declared.Class.{Class}
@@ -46,8 +46,8 @@ use Rattle.model.proofs.Once.{guarded_after, guarded_through, call_silent}
 -- ---- what is struck under a stamp is struck under every older one of its bucket
 under_older : (t n : ℕ) (f : Option ℕ) → t ≤ n → under n f ≡ true → under t f ≡ true
 unfolding under
-under_older t n none h p = p
-under_older t n (some f) h p = le-leb t f (omega (arith, leb-true n f p))
+under_older t n None h p = p
+under_older t n (Some f) h p = le-leb t f (omega (arith, leb-true n f p))
 
 struck_older : (b fp t n : ℕ) (reg : Register) → t ≤ n → Struck b fp n reg → Struck b fp t reg
 struck_older b fp t n reg h (in_class c k) =
@@ -149,10 +149,10 @@ module _ (s : Settings) (fit : settings_fit s ≡ true) (t : Strike) (x : State)
       (restore_listed u s.shares (slots_small u (fit_usable s t.register fit low)) (pairs_some s.shares (fit_shares s fit)) d (register_at t.register x) x.book
       l.generation l.print l.class (record { register = register_in s t.register x low ok; book = book_in s x ok }) l.listed l.its))
 
-  listed_in : (o : Option Dump) (d : Dump) → o ≡ some d → Listed u d t → StruckIn s t (restored s t.register x o).state
+  listed_in : (o : Option Dump) (d : Dump) → o ≡ Some d → Listed u d t → StruckIn s t (restored s t.register x o).state
   unfolding restored after_restored
-  listed_in none d e l = no (cc)
-  listed_in (some f) d e l =
+  listed_in None d e l = no (cc)
+  listed_in (Some f) d e l =
       let same : d ≡ f = cc in
       subst (λ (y : Register). Struck (bucket_of u t.stamp) t.print t.stamp y)
       (sym (get_or-set_same x.registers t.register _ no_register (there s t.register x ok low)))

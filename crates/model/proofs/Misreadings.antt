@@ -4,7 +4,7 @@ use native.Mathlib.Nat.{zero-mul}
 use native.Mathlib.Omega.{arith}
 use mathlib.Core.Path.{◌≡◌, refl}
 use mathlib.Core.List.{List, [], ◌∷◌}
-use mathlib.Core.Option.{Option, some}
+use Rattle.std.specs.Prelude.{Option, Some}
 use lib.Dec.{leb, ltb}
 use lib.ListN.{length, get_or}
 use borrow.Author.Tests.{le-leb}
@@ -26,7 +26,7 @@ unfolding verdict
 held_is_duplicate u reg a h = rw h
 
 -- ---- the floor stands
-pub same : (f : ℕ) (floor : Option ℕ) → floor ≡ some f → NoLower f floor
+pub same : (f : ℕ) (floor : Option ℕ) → floor ≡ Some f → NoLower f floor
 same f floor e = record { level = f; there = e; no_lower = omega arith }
 
 pub raised : (f n : ℕ) (floor : Option ℕ) → NoLower f floor → NoLower f (raise floor n)

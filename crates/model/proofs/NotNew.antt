@@ -5,6 +5,8 @@ use mathlib.Core.List.{List, ◌++◌}
 use lib.Dec.{eqb}
 use lib.ListN.{drop}
 use borrow.Author.Tests.{eqb-true}
+use Rattle.model.specs.declared.Manner.{Manner}
+use Rattle.model.specs.declared.Manner.TheVariants.{Judged, JudgedBatch, Taken, TakenBatch}
 use Rattle.model.specs.declared.Settings.{Settings}
 use Rattle.model.specs.declared.Verdict.TheVariants.{New}
 use Rattle.model.specs.Answer.{Said}
@@ -14,7 +16,7 @@ use Rattle.model.specs.Book.{Book}
 use Rattle.model.specs.Register.{Register}
 use Rattle.model.specs.Judge.{judge, judge_batch, take, take_batch}
 use Rattle.model.specs.Words.{State, state_form}
-use Rattle.model.specs.Calls.{Manner, judged, judged_batch, taken, taken_batch, Asking, Ticket, On, register_at, with_register, with_book, ask_of, after_judged}
+use Rattle.model.specs.Calls.{Asking, Ticket, On, register_at, with_register, with_book, ask_of, after_judged}
 use Rattle.model.specs.Calls.{after_taken, asked, done_on, step, deed_fits, codes_fit, is_open, unfit, unsound, no_such_register, deed_refusals, own_refusals}
 use Rattle.model.specs.Calls.{first_met, held_in, refused}
 use Rattle.model.specs.NotNew.{LeavesAs, NotNewLeavesWords}
@@ -26,14 +28,14 @@ module _ (s : Settings) (r : ℕ) (a : Asking) (x : State) where
   left_so : (reg reg' : Register) (k : Book) → (reg ≡ reg') × (k ≡ x.book) → with_book k (with_register r reg x) ≡ with_register r reg' x
   left_so reg reg' k e = ap (λ (y : Book). with_book y (with_register r reg x)) e.1 ∙ ap (λ (y : Register). with_register r y x) e.0
 
-  take_leaves : ((asked s r taken (ask_of a) x).answer ≡ Said New → ⊥) → (asked s r taken (ask_of a) x).state ≡ (asked s r judged (ask_of a) x).state
+  take_leaves : ((asked s r Taken (ask_of a) x).answer ≡ Said New → ⊥) → (asked s r Taken (ask_of a) x).state ≡ (asked s r Judged (ask_of a) x).state
   unfolding asked after_judged after_taken take
   take_leaves n =
       let j = judge (usable_at s r) (register_at r x) (ask_of a) in
       left_so _ j.register _ (rest_leaves (usable_at s r) s.shares (ask_of a) x.book j.register j.says (λ e. n (ap Said e)))
 
-  batch_leaves : ((asked s r taken_batch (ask_of a) x).answer ≡ Said New → ⊥)
-      → (asked s r taken_batch (ask_of a) x).state ≡ (asked s r judged_batch (ask_of a) x).state
+  batch_leaves : ((asked s r TakenBatch (ask_of a) x).answer ≡ Said New → ⊥)
+      → (asked s r TakenBatch (ask_of a) x).state ≡ (asked s r JudgedBatch (ask_of a) x).state
   unfolding asked after_judged after_taken take_batch
   batch_leaves n =
       let j = judge_batch (usable_at s r) (register_at r x) (ask_of a) in
@@ -62,4 +64,4 @@ carried m n f st ws r a not_new =
     (λ d. refused_words st ws p d ∙ sym (refused_words st ws q (ap (λ (i : ℕ). eqb i 0) (sym (same_refusal st ws r a m n)) ∙ d)))
 
 pub not_new_leaves_words : NotNewLeavesWords
-not_new_leaves_words = (carried taken judged take_leaves, carried taken_batch judged_batch batch_leaves)
+not_new_leaves_words = (carried Taken Judged take_leaves, carried TakenBatch JudgedBatch batch_leaves)

@@ -3,10 +3,12 @@ use Prim.Native.Nat.{ℕ}
 use mathlib.Core.Path.{◌≡◌, refl}
 use mathlib.Core.Bool.{true, false}
 use mathlib.Core.List.{List, [], ◌∷◌}
-use mathlib.Core.Option.{some}
+use Rattle.std.specs.Prelude.{Some}
 use lib.Dec.{lit≤}
 use lib.ListN.{replicate}
 use Rattle.model.specs.declared.Class.TheVariants.{Feeders}
+use Rattle.model.specs.declared.Manner.{Manner}
+use Rattle.model.specs.declared.Manner.TheVariants.{Judged, Taken}
 use Rattle.model.specs.declared.Verdict.TheVariants.{New, Duplicate, Late}
 use Rattle.model.specs.Answer.{Refused, Done, Said, Whole, Partly}
 use Rattle.runs.specs.Words.{zeros, same_words, pad}
@@ -19,7 +21,7 @@ use Rattle.model.specs.RegisterWords.{heading_sound}
 use Rattle.model.specs.Dump.{word_bytes}
 use Rattle.model.specs.Words.{front_sound, state_form}
 use Rattle.model.specs.Codes.{went_through}
-use Rattle.model.specs.Calls.{Manner, judged, taken, Ticket, Sweep, Restore, Resume, Call, Open, On, Close, opened, kind, compute_rules}
+use Rattle.model.specs.Calls.{Ticket, Sweep, Restore, Resume, Call, Open, On, Close, opened, kind, compute_rules}
 use Rattle.model.specs.View.{Given, answered, left_by, words_after}
 use Rattle.model.specs.Soundness.{Admitted, Vetted}
 use Rattle.model.specs.Once.{takes, asks_about, remade_among, Answered, moments, Calls, Replaces, Aside, LeavesAlone, AllAside, compute_once}
@@ -62,7 +64,7 @@ settings_are_fit : settings_fit (settings_of settings) ≡ true
 unfolding compute_all
 settings_are_fit = refl
 
-call_is_admitted : Admitted (settings_of settings) (ask taken 1 7 6)
+call_is_admitted : Admitted (settings_of settings) (ask Taken 1 7 6)
 unfolding compute_all
 call_is_admitted = (refl, refl)
 
@@ -78,25 +80,25 @@ words_are_vetted = record { fit = refl; long = lit≤ tt; sound = refl }
 -- duplicates. A call without settings is refused. A judge at a later reading sweeps them away, and from then on they are late, also
 -- after the clock stepped back again
 pub accepted_once : moments words
-    (given (open_at 4) ∷ given (ask taken 1 1 6) ∷ given (ask taken 1 7 6) ∷ given (ask taken 1 8 5) ∷ given (ask judged 1 1 6)
-    ∷ given (ask judged 1 7 6) ∷ record { settings = []; call = Close } ∷ given (ask judged 1 9 7) ∷ given (ask taken 1 7 6) ∷ [])
-    ≡ Answered (open_at 4) Done ∷ Answered (ask taken 1 1 6) (Said New) ∷ Answered (ask taken 1 7 6) (Said New) ∷ Answered (ask taken 1 8 5) (Said New)
-    ∷ Answered (ask judged 1 1 6) (Said Duplicate) ∷ Answered (ask judged 1 7 6) (Said Duplicate) ∷ Answered Close (Refused 1)
-    ∷ Answered (ask judged 1 9 7) (Said New) ∷ Answered (ask taken 1 7 6) (Said Late) ∷ []
+    (given (open_at 4) ∷ given (ask Taken 1 1 6) ∷ given (ask Taken 1 7 6) ∷ given (ask Taken 1 8 5) ∷ given (ask Judged 1 1 6)
+    ∷ given (ask Judged 1 7 6) ∷ record { settings = []; call = Close } ∷ given (ask Judged 1 9 7) ∷ given (ask Taken 1 7 6) ∷ [])
+    ≡ Answered (open_at 4) Done ∷ Answered (ask Taken 1 1 6) (Said New) ∷ Answered (ask Taken 1 7 6) (Said New) ∷ Answered (ask Taken 1 8 5) (Said New)
+    ∷ Answered (ask Judged 1 1 6) (Said Duplicate) ∷ Answered (ask Judged 1 7 6) (Said Duplicate) ∷ Answered Close (Refused 1)
+    ∷ Answered (ask Judged 1 9 7) (Said New) ∷ Answered (ask Taken 1 7 6) (Said Late) ∷ []
 unfolding compute_all
 accepted_once = refl
 
 -- the conditions one by one: between the two takes stand a sweep and an opening that is refused
-pub conditions_met : (takes (kind (ask taken 1 7 6)) ≡ some (record { register = 0; print = 7; stamp = 6 }))
-    × ((answered opened_words (given (ask taken 1 7 6)) ≡ Said New)
-    × ((remade_among 0 (left_by opened_words (given (ask taken 1 7 6))) (given (On 0 (Sweep 7)) ∷ record { settings = []; call = open_at 4 } ∷ []) ≡ false)
-    × (asks_about (kind (ask judged 1 7 6)) ≡ some (record { register = 0; print = 7; stamp = 6 }))))
+pub conditions_met : (takes (kind (ask Taken 1 7 6)) ≡ Some (record { register = 0; print = 7; stamp = 6 }))
+    × ((answered opened_words (given (ask Taken 1 7 6)) ≡ Said New)
+    × ((remade_among 0 (left_by opened_words (given (ask Taken 1 7 6))) (given (On 0 (Sweep 7)) ∷ record { settings = []; call = open_at 4 } ∷ []) ≡ false)
+    × (asks_about (kind (ask Judged 1 7 6)) ≡ Some (record { register = 0; print = 7; stamp = 6 }))))
 unfolding compute_all
 conditions_met = (refl, (refl, (refl, refl)))
 
 -- an opening ends the promise: the ticket is New again
-pub new_again : moments words (given (open_at 4) ∷ given (ask taken 1 7 6) ∷ given (open_at 4) ∷ given (ask taken 1 7 6) ∷ [])
-    ≡ Answered (open_at 4) Done ∷ Answered (ask taken 1 7 6) (Said New) ∷ Answered (open_at 4) Done ∷ Answered (ask taken 1 7 6) (Said New) ∷ []
+pub new_again : moments words (given (open_at 4) ∷ given (ask Taken 1 7 6) ∷ given (open_at 4) ∷ given (ask Taken 1 7 6) ∷ [])
+    ≡ Answered (open_at 4) Done ∷ Answered (ask Taken 1 7 6) (Said New) ∷ Answered (open_at 4) Done ∷ Answered (ask Taken 1 7 6) (Said New) ∷ []
 unfolding compute_all
 new_again = refl
 
@@ -107,9 +109,9 @@ brings dump = On 0 (Restore (flat word_bytes dump))
 abbrev one_more : Call
 one_more = brings (0 ∷ 1 ∷ 3 ∷ 5 ∷ 1 ∷ 8 ∷ 0 ∷ 0 ∷ [])
 
-pub held_through_a_restore : (moments words (given (open_at 4) ∷ given (ask taken 1 7 6) ∷ given one_more ∷ given (ask taken 1 7 6) ∷ [])
-    ≡ Answered (open_at 4) Done ∷ Answered (ask taken 1 7 6) (Said New) ∷ Answered one_more (Whole 64) ∷ Answered (ask taken 1 7 6) (Said Duplicate) ∷ [])
-    × (remade_among 0 (left_by opened_words (given (ask taken 1 7 6))) (given one_more ∷ []) ≡ false)
+pub held_through_a_restore : (moments words (given (open_at 4) ∷ given (ask Taken 1 7 6) ∷ given one_more ∷ given (ask Taken 1 7 6) ∷ [])
+    ≡ Answered (open_at 4) Done ∷ Answered (ask Taken 1 7 6) (Said New) ∷ Answered one_more (Whole 64) ∷ Answered (ask Taken 1 7 6) (Said Duplicate) ∷ [])
+    × (remade_among 0 (left_by opened_words (given (ask Taken 1 7 6))) (given one_more ∷ []) ≡ false)
 unfolding compute_all
 held_through_a_restore = (refl, refl)
 
@@ -117,9 +119,9 @@ held_through_a_restore = (refl, refl)
 abbrev pub three_more : Call
 three_more = brings (0 ∷ 1 ∷ 3 ∷ 5 ∷ 3 ∷ 8 ∷ 9 ∷ 10 ∷ 0 ∷ 0 ∷ [])
 
-pub late_through_a_restore : (moments words (given (open_at 4) ∷ given (ask taken 1 7 6) ∷ given three_more ∷ given (ask taken 1 7 6) ∷ [])
-    ≡ Answered (open_at 4) Done ∷ Answered (ask taken 1 7 6) (Said New) ∷ Answered three_more (Partly 80) ∷ Answered (ask taken 1 7 6) (Said Late) ∷ [])
-    × (remade_among 0 (left_by opened_words (given (ask taken 1 7 6))) (given three_more ∷ []) ≡ false)
+pub late_through_a_restore : (moments words (given (open_at 4) ∷ given (ask Taken 1 7 6) ∷ given three_more ∷ given (ask Taken 1 7 6) ∷ [])
+    ≡ Answered (open_at 4) Done ∷ Answered (ask Taken 1 7 6) (Said New) ∷ Answered three_more (Partly 80) ∷ Answered (ask Taken 1 7 6) (Said Late) ∷ [])
+    × (remade_among 0 (left_by opened_words (given (ask Taken 1 7 6))) (given three_more ∷ []) ≡ false)
 unfolding compute_all
 late_through_a_restore = (refl, refl)
 
@@ -127,17 +129,17 @@ late_through_a_restore = (refl, refl)
 abbrev pub nothing_proven : Call
 nothing_proven = On 0 (Resume (flat word_bytes (0 ∷ 0 ∷ 0 ∷ 0 ∷ [])) 0 0)
 
-pub new_after_resume : moments words (given (open_at 4) ∷ given (ask taken 1 7 6) ∷ given (On 0 (Sweep 8)) ∷ given (ask judged 1 7 6) ∷ given nothing_proven ∷ given (ask taken 1 7 6) ∷ [])
-    ≡ Answered (open_at 4) Done ∷ Answered (ask taken 1 7 6) (Said New) ∷ Answered (On 0 (Sweep 8)) Done ∷ Answered (ask judged 1 7 6) (Said Late)
-    ∷ Answered nothing_proven (Whole 32) ∷ Answered (ask taken 1 7 6) (Said New) ∷ []
+pub new_after_resume : moments words (given (open_at 4) ∷ given (ask Taken 1 7 6) ∷ given (On 0 (Sweep 8)) ∷ given (ask Judged 1 7 6) ∷ given nothing_proven ∷ given (ask Taken 1 7 6) ∷ [])
+    ≡ Answered (open_at 4) Done ∷ Answered (ask Taken 1 7 6) (Said New) ∷ Answered (On 0 (Sweep 8)) Done ∷ Answered (ask Judged 1 7 6) (Said Late)
+    ∷ Answered nothing_proven (Whole 32) ∷ Answered (ask Taken 1 7 6) (Said New) ∷ []
 unfolding compute_all
 new_after_resume = refl
 
 -- ---- a take that is not New: buckets 4 and 2 have one position; judge says New, take says Late, and the held ticket stays
 pub late_by_position : moments words
-    (given (open_at 4) ∷ given (ask taken 1 7 8) ∷ given (ask judged 1 9 4) ∷ given (ask taken 1 9 4) ∷ given (ask judged 1 7 8) ∷ [])
-    ≡ Answered (open_at 4) Done ∷ Answered (ask taken 1 7 8) (Said New) ∷ Answered (ask judged 1 9 4) (Said New)
-    ∷ Answered (ask taken 1 9 4) (Said Late) ∷ Answered (ask judged 1 7 8) (Said Duplicate) ∷ []
+    (given (open_at 4) ∷ given (ask Taken 1 7 8) ∷ given (ask Judged 1 9 4) ∷ given (ask Taken 1 9 4) ∷ given (ask Judged 1 7 8) ∷ [])
+    ≡ Answered (open_at 4) Done ∷ Answered (ask Taken 1 7 8) (Said New) ∷ Answered (ask Judged 1 9 4) (Said New)
+    ∷ Answered (ask Taken 1 9 4) (Said Late) ∷ Answered (ask Judged 1 7 8) (Said Duplicate) ∷ []
 unfolding compute_all
 late_by_position = refl
 
@@ -155,10 +157,10 @@ all_aside = (tt, (aside, (tt, tt)))
 
 -- ---- twice T: with T = 2 one Feeder holds two entries, and another brings the class to 3
 abbrev two_held : List ℕ
-two_held = words_after words (given (open_at 2) ∷ given (ask taken 1 7 6) ∷ given (ask taken 1 8 6) ∷ [])
+two_held = words_after words (given (open_at 2) ∷ given (ask Taken 1 7 6) ∷ given (ask Taken 1 8 6) ∷ [])
 
 pub above_the_limit : (class_units settings two_held Feeders ≡ 2)
-    × ((class_units settings (left_by two_held (given (ask taken 2 9 6))) Feeders ≡ 3) × (class_limit settings two_held Feeders ≡ 2))
+    × ((class_units settings (left_by two_held (given (ask Taken 2 9 6))) Feeders ≡ 3) × (class_limit settings two_held Feeders ≡ 2))
 unfolding compute_all
 above_the_limit = (refl, (refl, refl))
 

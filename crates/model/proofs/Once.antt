@@ -3,7 +3,7 @@ use Prim.Native.Nat.{ℕ, ◌≤◌, ◌<◌}
 use mathlib.Core.Path.{◌≡◌, refl, sym, ◌∙◌, ap, subst}
 use mathlib.Core.Bool.{Bool, true, false}
 use mathlib.Core.List.{List, [], ◌∷◌, ◌++◌}
-use mathlib.Core.Option.{some}
+use Rattle.std.specs.Prelude.{Some}
 use lib.Dec.{eqb}
 use lib.ListN.{length}
 use borrow.Author.Tests.{eqb-true}
@@ -37,7 +37,7 @@ pub record Guarded (t : Strike) (ws : List ℕ) : Type 0 where
 
 record GoodCall (s : Settings) (t : Strike) (call : Call) (x : State) : Type 0 where
   keeps : remakes t.register (kind call) (step s call x).answer ≡ false → StruckIn s t (step s call x).state
-  silent : asks_about (kind call) ≡ some t → (step s call x).answer ≡ Said New → ⊥
+  silent : asks_about (kind call) ≡ Some t → (step s call x).answer ≡ Said New → ⊥
 
 -- words that are vetted are so under one settings only: so one settings will do
 guarded_by : (t : Strike) (st ws : List ℕ) → Vetted st ws → StruckIn (settings_of st) t (held_in (settings_of st) ws) → Guarded t ws
@@ -52,7 +52,7 @@ kind_remakes r (OnOne q d) a o t = no (cc)
 kind_remakes r (Sets limits) a o t = no (cc)
 kind_remakes r Other a o t = no (cc)
 
-kind_silent : (t : Strike) (k : Kind) → opens k ≡ true → asks_about k ≡ some t → ⊥
+kind_silent : (t : Strike) (k : Kind) → opens k ≡ true → asks_about k ≡ Some t → ⊥
 unfolding opens asks_about
 kind_silent t (Opens limits starts) o e = none_some e
 kind_silent t (OnOne q d) o e = no (cc)
@@ -92,7 +92,7 @@ module _ (st ws : List ℕ) (call : Call) where
     unfolding is_open
     opens_all r o = kind_remakes r (kind call) _ o (step_through s call held)
 
-    opens_silent : (t : Strike) → is_open call ≡ true → asks_about (kind call) ≡ some t → ⊥
+    opens_silent : (t : Strike) → is_open call ≡ true → asks_about (kind call) ≡ Some t → ⊥
     unfolding is_open
     opens_silent t o e = kind_silent t (kind call) o e
 
@@ -103,7 +103,7 @@ module _ (st ws : List ℕ) (call : Call) where
         let g = (lawful call).guards s t held pos (fit_settings st fit) (entered st ws call z).register ok struck in
         record { keeps = g.keeps; silent = g.silent }
 
-    strikes : (t : Strike) → (state_form s).Ok held → takes (kind call) ≡ some t → (step s call held).answer ≡ Said New
+    strikes : (t : Strike) → (state_form s).Ok held → takes (kind call) ≡ Some t → (step s call held).answer ≡ Said New
         → (0 < t.print) × StruckIn s t (step s call held).state
     unfolding step kind no_such_register
     strikes t ok e n = (lawful call).strikes s t held (entered st ws call z).register ok e n
@@ -131,7 +131,7 @@ module _ (st ws : List ℕ) (call : Call) where
         (good z v.fit (vetted_ok st ws v) t pos (g.struck st v)).silent c.0 (sym (reply_is st ws call z) ∙ c.1)))
         (λ d. refused_new d c.1)
 
-  sort_takes_asks : (t : Strike) (r : ℕ) (d : Sort) → sort_takes r d ≡ some t → sort_asks r d ≡ some t
+  sort_takes_asks : (t : Strike) (r : ℕ) (d : Sort) → sort_takes r d ≡ Some t → sort_asks r d ≡ Some t
   unfolding sort_takes sort_asks
   sort_takes_asks t r (Asks a) e = absurd (none_some e)
   sort_takes_asks t r (Takes a) e = e
@@ -139,7 +139,7 @@ module _ (st ws : List ℕ) (call : Call) where
   sort_takes_asks t r Resumes e = e
   sort_takes_asks t r Plain e = e
 
-  takes_asks : (t : Strike) (k : Kind) → takes k ≡ some t → asks_about k ≡ some t
+  takes_asks : (t : Strike) (k : Kind) → takes k ≡ Some t → asks_about k ≡ Some t
   unfolding takes asks_about
   takes_asks t (Opens limits starts) e = e
   takes_asks t (OnOne r d) e = sort_takes_asks t r d e

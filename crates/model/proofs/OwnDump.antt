@@ -4,7 +4,7 @@ use native.Mathlib.Omega.{arith}
 use mathlib.Core.Path.{◌≡◌, refl, ap, sym, ◌∙◌, subst}
 use mathlib.Core.Bool.{Bool, true, false, cond, not}
 use mathlib.Core.List.{List, [], ◌∷◌, ◌++◌, map}
-use mathlib.Core.Option.{Option, none, some}
+use Rattle.std.specs.Prelude.{Option, Some, None}
 use lib.Dec.{eqb}
 use lib.ListN.{length, get_or}
 use lib.Seq.{get_or-set_same, set-get_or}
@@ -163,8 +163,8 @@ module _ (u : Usable) (b : Shares) (reg : Register) where
 -- ---- the whole register: its own floor raises nothing
 raised_again : (f : Option ℕ) → cond (eqb (dumped_floor f) 0) f (raise f (dumped_floor f - 1)) ≡ f
 unfolding dumped_floor raise cap64
-raised_again none = refl
-raised_again (some f) = rw (ne_eqb (cap64 (suc f)) 0 (λ z. omega arith)) (ap some (omega arith))
+raised_again None = refl
+raised_again (Some f) = rw (ne_eqb (cap64 (suc f)) 0 (λ z. omega arith)) (ap Some (omega arith))
 
 restore_leaves : (u : Usable) (b : Shares) (reg : Register) (k : Book) → RegisterOk u reg → (restore u b (dump_of reg) reg k).whole ≡ true
     → (restore u b (dump_of reg) reg k).register ≡ reg
@@ -186,12 +186,12 @@ said_whole : (w : Bool) (m n : ℕ) → cond w (Whole m) (Partly m) ≡ Whole n 
 said_whole true m n e = refl
 said_whole false m n e = no (cc)
 
-restored_leaves : (s : Settings) (r : ℕ) (t : State) (o : Option Dump) (n : ℕ) → o ≡ some (dump_of (register_at r t))
+restored_leaves : (s : Settings) (r : ℕ) (t : State) (o : Option Dump) (n : ℕ) → o ≡ Some (dump_of (register_at r t))
     → (register_form (usable_at s r)).Ok (register_at r t) → r < length t.registers → (restored s r t o).answer ≡ Whole n
     → register_at r (restored s r t o).state ≡ register_at r t
 unfolding restored after_restored
-restored_leaves s r t none n read ok low e = no (cc)
-restored_leaves s r t (some d) n read ok low e =
+restored_leaves s r t None n read ok low e = no (cc)
+restored_leaves s r t (Some d) n read ok low e =
     let same : d ≡ dump_of (register_at r t) = cc in
     let w = restore (usable_at s r) s.shares d (register_at r t) t.book in
     let whole = said_whole w.whole (bytes_read d) n e in
@@ -215,7 +215,7 @@ own_dump_leaves d more n e =
     let low = leb-false s.registers r k.register in
     let w = wrote st ws r d.output d.told d.small d.said in
     let long = (vetted_ok st ws w.vetted).1.1.0.0 in
-    let read : read_dump (bytes_of d ++ more) ≡ some (dump_of (register_at r now)) =
+    let read : read_dump (bytes_of d ++ more) ≡ Some (dump_of (register_at r now)) =
     ap (λ (x : List ℕ). read_dump (x ++ more)) w.bytes ∙ dump_back (register_at r now) more (dump_small (usable_at s r) (register_at r now) w.ok w.words) in
     ap (register_at r) (sym (holding_is st (after st ws call) (after_vetted st ws call z)) ∙ after_holds st ws call z)
     ∙ restored_leaves s r now (read_dump (bytes_of d ++ more)) n read w.ok (omega arith) (sym (reply_is st ws call z) ∙ e)

@@ -5,7 +5,7 @@ use native.Mathlib.Omega.{arith}
 use mathlib.Core.Path.{◌≡◌, refl, sym, ◌∙◌, ap, subst}
 use mathlib.Core.Bool.{Bool, true, false, cond}
 use mathlib.Core.List.{List, [], ◌∷◌}
-use mathlib.Core.Option.{Option, none, some}
+use Rattle.std.specs.Prelude.{Option, Some, None}
 use lib.Dec.{eqb}
 use lib.Seq.{get_or-set_same}
 use borrow.Author.Tests.{eqb-false, eq-eqb, leb-false}
@@ -186,14 +186,14 @@ said_partly false m n e = refl
 
 record BlameIn (r : ℕ) (o : Option Dump) (was t : State) : Type 0 where
   dump : Dump
-  read : o ≡ some dump
+  read : o ≡ Some dump
   blame : Blame dump (register_at r was) (register_at r t)
 
 restored_blame : (s : Settings) (r : ℕ) (t : State) (o : Option Dump) (n : ℕ) → settings_fit s ≡ true → r < s.registers → (state_form s).Ok t
     → (restored s r t o).answer ≡ Partly n → BlameIn r o t (restored s r t o).state
 unfolding restored after_restored
-restored_blame s r t none n fit low ok e = no (cc)
-restored_blame s r t (some d) n fit low ok e =
+restored_blame s r t None n fit low ok e = no (cc)
+restored_blame s r t (Some d) n fit low ok e =
     let u = usable_at s r in
     let w = restore u s.shares d (register_at r t) t.book in
     record {

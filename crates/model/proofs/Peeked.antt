@@ -4,7 +4,7 @@ use native.Mathlib.Omega.{arith}
 use native.Mathlib.Nat.{mod-lt}
 use mathlib.Core.Path.{◌≡◌, refl, sym, ◌∙◌, ap}
 use mathlib.Core.Bool.{Bool, true, false, cond}
-use mathlib.Core.Option.{Option, none, some}
+use Rattle.std.specs.Prelude.{Option, Some, None}
 use lib.Dec.{eqb}
 use lib.ListN.{length, get_or, set, length-set}
 use lib.Seq.{get_or-set_same, get_or-set_other}
@@ -26,16 +26,16 @@ peeks (suc k) through b ring f = peeks k through (suc b) ring (peek through (gen
 -- ---- a floor that a number does not raise
 high_stays : (m n : ℕ) (f : Option ℕ) → raise f m ≡ f → raise (raise f n) m ≡ raise f n
 unfolding raise
-high_stays m n none e = no (cc)
-high_stays m n (some a) e =
+high_stays m n None e = no (cc)
+high_stays m n (Some a) e =
     let h : max a m ≡ a = cc in
     let z : max (max a n) m ≡ max a n = omega (arith, h) in
-    ap some z
+    ap Some z
 
 twice_raised : (m : ℕ) (f : Option ℕ) → raise (raise f m) m ≡ raise f m
 unfolding raise
-twice_raised m none = let z : max m m ≡ m = omega arith in ap some z
-twice_raised m (some a) = let z : max (max a m) m ≡ max a m = omega arith in ap some z
+twice_raised m None = let z : max m m ≡ m = omega arith in ap Some z
+twice_raised m (Some a) = let z : max (max a m) m ≡ max a m = omega arith in ap Some z
 
 peek_high : (through m : ℕ) (g : Generation) (f : Option ℕ) → raise f m ≡ f → raise (peek through g f) m ≡ peek through g f
 peek_high through m g f e = by_test (passed through g) (λ p. rw p (high_stays m g.newest f e)) (λ p. rw p e)

@@ -1,5 +1,4 @@
 -- Refusals and codes as the code hands them on: what the exit of a `?` returns, and what a listed code is.
-use Prim.Native.Nat.{ℕ}
 use native.Mathlib.Omega.{arith}
 use mathlib.Core.Path.{◌≡◌, refl}
 use mathlib.Core.Bool.{Bool, true, false}

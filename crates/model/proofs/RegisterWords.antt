@@ -3,7 +3,7 @@ use Prim.Native.Nat.{ℕ}
 use native.Mathlib.Omega.{arith}
 use mathlib.Core.Path.{◌≡◌, refl, subst, subst⁻¹}
 use mathlib.Core.Bool.{Bool, true, false, ◌||◌}
-use mathlib.Core.Option.{Option, none, some}
+use Rattle.std.specs.Prelude.{Option, Some, None}
 use mathlib.Core.List.{List, [], ◌∷◌}
 use lib.ListN.{length, get_or, drop, length-drop}
 use lib.Dec.{eqb, leb}
@@ -47,12 +47,12 @@ floor_back v w t =
     (λ e. (rw e (omega (arith, leb-true v 1 p.0, eqb-false v 1 e)), rw e (eqb-true w 0 (rw e at p.1))))
 
 floor_test : (f : Option ℕ) → floor_sound (floor_flag f) (floor_word f) ≡ true
-floor_test none = refl
-floor_test (some f) = refl
+floor_test None = refl
+floor_test (Some f) = refl
 
 floor_read : (f : Option ℕ) → read_floor (floor_flag f) (floor_word f) ≡ f
-floor_read none = refl
-floor_read (some f) = refl
+floor_read None = refl
+floor_read (Some f) = refl
 
 pub same : (a : ℕ) → eqb a a ≡ true
 same a = eq-eqb a a refl

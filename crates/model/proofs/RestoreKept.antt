@@ -3,7 +3,7 @@ use Prim.Native.Nat.{ℕ, zero, suc, ◌≤◌}
 use mathlib.Core.Path.{◌≡◌, refl}
 use mathlib.Core.Bool.{Bool, true, not}
 use mathlib.Core.List.{List, [], ◌∷◌}
-use mathlib.Core.Option.{Option, none, some}
+use Rattle.std.specs.Prelude.{Option, Some, None}
 use Rattle.model.specs.declared.Class.{Class}
 use Rattle.model.specs.declared.Class.TheVariants.{Feeders, Peers, Own}
 use Rattle.model.specs.declared.Deliverer.{Deliverer}
@@ -93,11 +93,11 @@ module _ (u : Usable) (b : Shares) (small : u.slots ≤ 1_024) (some_pairs : 1 �
 
   proven_fine : (p : Option ℕ) (reg : Register) → RegisterOk u reg → RegisterOk u (raised_to_proven p reg)
   unfolding raised_to_proven
-  proven_fine none reg ok = ok
-  proven_fine (some f) reg ok = floor_ok u _ reg ok
+  proven_fine None reg ok = ok
+  proven_fine (Some f) reg ok = floor_ok u _ reg ok
 
   pub resume_fine : (d : Dump) (p : Option ℕ) (reg : Register) (k : Book) → Fine u b reg k → Whole (resume u b d p reg k)
   unfolding resume
   resume_fine d p reg k ok =
-      let r = restore_fine d (with_floor none reg) k (record { register = floor_ok u none reg ok.register; book = ok.book }) in
+      let r = restore_fine d (with_floor None reg) k (record { register = floor_ok u None reg ok.register; book = ok.book }) in
       record { register = proven_fine p _ r.register; book = r.book }

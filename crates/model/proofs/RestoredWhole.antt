@@ -1,7 +1,7 @@
 -- A register's dump, restored into an untouched register with the same settings and enough room: all three classes and the floor.
 use mathlib.Core.Path.{◌≡◌, refl, ap, sym, ◌∙◌, subst}
 use mathlib.Core.Bool.{true, cond}
-use mathlib.Core.Option.{Option, none, some}
+use Rattle.std.specs.Prelude.{Option, Some, None}
 use Prim.Native.Nat.{ℕ, suc, ◌+◌, ◌-◌, ◌≤◌, min}
 use native.Mathlib.Omega.{arith}
 use lib.Dec.{eqb}
@@ -27,13 +27,13 @@ use Rattle.model.proofs.Holding.{with_class}
 use Rattle.model.proofs.Restored.{ClassBack, class_back}
 
 -- ---- the floor: what is written as floor and 1 is read as the floor, unless that was the largest
-floor_back : (floor : Option ℕ) → ((f : ℕ) → floor ≡ some f → f ≤ top64) → (floor ≡ some top64 → ⊥)
-    → cond (eqb (dumped_floor floor) 0) none (raise none (dumped_floor floor - 1)) ≡ floor
+floor_back : (floor : Option ℕ) → ((f : ℕ) → floor ≡ Some f → f ≤ top64) → (floor ≡ Some top64 → ⊥)
+    → cond (eqb (dumped_floor floor) 0) None (raise None (dumped_floor floor - 1)) ≡ floor
 unfolding dumped_floor raise cap64
-floor_back none small other = refl
-floor_back (some f) small other =
+floor_back None small other = refl
+floor_back (Some f) small other =
     let l = small f refl in
-    let d : f ≡ top64 → ⊥ = λ e. other (ap some e) in
+    let d : f ≡ top64 → ⊥ = λ e. other (ap Some e) in
     let s : min (suc f) top64 ≡ suc f = omega (arith, d) in
     let p : suc f - 1 ≡ f = omega arith in
     rw (s, ne_eqb (suc f) 0 (λ z. omega arith), p)
@@ -44,7 +44,7 @@ pub record WholeBack (from : Register) (r : Restoring) : Type 0 where
   pub back : BroughtBack from r.register
 
 module _ (u : Usable) (b : Shares) (from : Register) (k : Book) (ok : (register_form u).Ok from)
-    (small : (f : ℕ) → from.floor ≡ some f → f ≤ top64) (room : EnoughRoom u b k from.rings) where
+    (small : (f : ℕ) → from.floor ≡ Some f → f ≤ top64) (room : EnoughRoom u b k from.rings) where
   abbrev start : Register
   start = raised_to_dumped (dumped_floor from.floor) (started u Empty)
 
@@ -101,7 +101,7 @@ module _ (u : Usable) (b : Shares) (from : Register) (k : Book) (ok : (register_
   rings_back Peers = same_ring from.rings.of_peers peers_back.ring₁ ok.1.1.0.0 peers_back.long peers_back.same
   rings_back Own = same_ring from.rings.of_own own_back.ring₁ ok.1.1.1.0 own_back.long own_back.same
 
-  raised : (from.floor ≡ some top64 → ⊥) → start.floor ≡ from.floor
+  raised : (from.floor ≡ Some top64 → ⊥) → start.floor ≡ from.floor
   unfolding raised_to_dumped started
   raised other = floor_back from.floor small other
 

@@ -5,7 +5,7 @@ use native.Mathlib.Omega.{arith}
 use native.Mathlib.Nat.{mod-lt}
 use mathlib.Core.Path.{◌≡◌, refl, sym, subst, ◌∙◌}
 use mathlib.Core.Bool.{Bool, true, false, cond, not}
-use mathlib.Core.Option.{Option, none, some}
+use Rattle.std.specs.Prelude.{Option, Some, None}
 use lib.Dec.{leb, eqb}
 use lib.ListN.{length, replicate, length-set, length-replicate}
 use borrow.Author.Tests.{eqb-true, leb-true, not-false}
@@ -203,6 +203,6 @@ module _ (u : Usable) where
 
   pub started_ok : (s : Start) → RegisterOk u (started u s)
   unfolding started
-  started_ok Empty = start_rings none false
-  started_ok Fallback = start_rings none true
-  started_ok (AtFloor f) = start_rings (some f) false
+  started_ok Empty = start_rings None false
+  started_ok Fallback = start_rings None true
+  started_ok (AtFloor f) = start_rings (Some f) false

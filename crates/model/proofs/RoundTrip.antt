@@ -2,7 +2,7 @@
 use mathlib.Core.Path.{◌≡◌, refl, ap, sym, ◌∙◌, subst}
 use mathlib.Core.Bool.{true}
 use mathlib.Core.List.{List, ◌++◌}
-use mathlib.Core.Option.{some}
+use Rattle.std.specs.Prelude.{Some}
 use Prim.Native.Nat.{ℕ, ◌+◌, ◌*◌, ◌≤◌, ◌<◌}
 use native.Mathlib.Omega.{arith}
 use lib.Dec.{eqb}
@@ -104,14 +104,14 @@ after_whole from q t w low b = record {
 }
 
 steps : (s : Settings) (t : State) (q : ℕ) (u : Usable) (from : Register) (bytes : List ℕ) → usable_at s q ≡ u → register_at q t ≡ started u Empty
-    → q < length t.registers → read_dump bytes ≡ some (dump_of from) → WholeBack from (restore u s.shares (dump_of from) (started u Empty) t.book)
+    → q < length t.registers → read_dump bytes ≡ Some (dump_of from) → WholeBack from (restore u s.shares (dump_of from) (started u Empty) t.book)
     → Stepped from q (step s (On q (Restore bytes)) t)
 unfolding step done_on restored
 steps s t q u from bytes same untouched low read back =
     rw (read, same, untouched) (after_whole from q t (restore u s.shares (dump_of from) (started u Empty) t.book) low back)
 
 -- ---- the target, on words: nothing refuses
-passes : (st vs : List ℕ) (q : ℕ) (bytes : List ℕ) (d : Dump) → Vetted st vs → q < (settings_of st).registers → read_dump bytes ≡ some d
+passes : (st vs : List ℕ) (q : ℕ) (bytes : List ℕ) (d : Dump) → Vetted st vs → q < (settings_of st).registers → read_dump bytes ≡ Some d
     → refused st vs (On q (Restore bytes)) ≡ 0
 unfolding refused first_met unfit codes_fit deed_fits too_short unsound is_open no_such_register own_refusals deed_refusals is_cut
 passes st vs q bytes d v low read =
@@ -151,7 +151,7 @@ module _ (st vs : List ℕ) (q : ℕ) (v : Vetted st vs) (low : q < (settings_of
       }
 
 -- ---- what `view` reads is what the calls find
-view_vetted : (st ws : List ℕ) (t : State) → view ws ≡ some t → settings_words_fit st ≡ true → kept_settings ws ≡ settings_of st
+view_vetted : (st ws : List ℕ) (t : State) → view ws ≡ Some t → settings_words_fit st ≡ true → kept_settings ws ≡ settings_of st
     → Vetted st ws × (held_in (settings_of st) ws ≡ t)
 view_vetted st ws t e fit kept =
     let r = view_read ws t e in (
@@ -163,11 +163,11 @@ view_vetted st ws t e fit kept =
       subst (λ (x : Settings). held_in x ws ≡ t) kept r.holds,
     )
 
-pub vetted_seen : (st ws : List ℕ) → Vetted st ws → view ws ≡ some (held_in (settings_of st) ws)
+pub vetted_seen : (st ws : List ℕ) → Vetted st ws → view ws ≡ Some (held_in (settings_of st) ws)
 vetted_seen st ws v = let fit = fit_settings st v.fit in view_sound (settings_of st) fit (brought_trimmed st fit) ws v.long v.sound
 
-pub vetted_view : (st ws : List ℕ) (t : State) → view ws ≡ some t → Vetted st ws → held_in (settings_of st) ws ≡ t
-vetted_view st ws t e v = let h : some (held_in (settings_of st) ws) ≡ some t = sym (vetted_seen st ws v) ∙ e in cc
+pub vetted_view : (st ws : List ℕ) (t : State) → view ws ≡ Some t → Vetted st ws → held_in (settings_of st) ws ≡ t
+vetted_view st ws t e v = let h : Some (held_in (settings_of st) ws) ≡ Some t = sym (vetted_seen st ws v) ∙ e in cc
 
 -- demand 2, last sentence
 pub round_trip : RoundTrip

@@ -3,7 +3,7 @@
 use mathlib.Core.Path.{◌≡◌, subst}
 use mathlib.Core.Bool.{true, not}
 use mathlib.Core.List.{List, [], ◌∷◌}
-use mathlib.Core.Option.{Option}
+use Rattle.std.specs.Prelude.{Option}
 use Prim.Native.Nat.{ℕ, zero, suc}
 use Rattle.model.specs.declared.Class.{Class}
 use Rattle.model.specs.declared.Class.TheVariants.{Feeders, Peers, Own}

@@ -5,7 +5,7 @@ use native.Mathlib.Omega.{arith}
 use mathlib.Core.Path.{◌≡◌, refl, sym, ◌∙◌, ap, subst}
 use mathlib.Core.Bool.{Bool, true, false, cond, not, ◌&&◌, ◌||◌}
 use mathlib.Core.List.{List, ◌++◌}
-use mathlib.Core.Option.{some}
+use Rattle.std.specs.Prelude.{Some}
 use lib.Dec.{eqb}
 use lib.ListN.{length, drop, length-append, length-drop}
 use borrow.Author.Tests.{eqb-true, eq-eqb, ltb-false, not-false}
@@ -114,7 +114,7 @@ module _ (st ws : List ℕ) (call : Call) (z : refused st ws call ≡ 0) where
       let e = entered st ws call z in
       ap (held_in s) after_is ∙ (written s (fit_settings st e.fit) left (drop (words_needed s) ws) left_ok).holds
 
-  after_seen : view (after st ws call) ≡ some left
+  after_seen : view (after st ws call) ≡ Some left
   after_seen =
       let e = entered st ws call z in
       let f = fit_settings st e.fit in

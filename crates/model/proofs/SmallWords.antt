@@ -1,7 +1,7 @@
 -- The words of a dump are 64-bit numbers where the register's own words are.
 use mathlib.Core.Path.{◌≡◌}
 use mathlib.Core.List.{List, [], ◌∷◌, ◌++◌}
-use mathlib.Core.Option.{Option, none, some}
+use Rattle.std.specs.Prelude.{Option, Some, None}
 use Prim.Native.Nat.{ℕ, zero, suc, ◌+◌, ◌-◌, ◌≤◌, ◌<◌}
 use native.Mathlib.Omega.{arith}
 use lib.Dec.{eqb}
@@ -74,8 +74,8 @@ ring_small u = omega arith
 
 floor_small : (f : Option ℕ) → dumped_floor f ≤ top64
 unfolding dumped_floor cap64
-floor_small none = omega arith
-floor_small (some f) = omega arith
+floor_small None = omega arith
+floor_small (Some f) = omega arith
 
 class_small : (u : Usable) (ring : Ring) → length ring ≡ ring_of u → EachOk (GenerationOk u.slots (ring_of u)) 0 ring
     → Words64 (flat (encode_generation u.slots) ring) → Words64 (class_words ring)
@@ -114,7 +114,7 @@ module _ (u : Usable) (reg : Register) (ok : (register_form u).Ok reg) (w : Word
             (both_words (class_words reg.rings.of_peers) (class_words reg.rings.of_own) b c),
       )
 
-  pub floor_word_small : (f : ℕ) → reg.floor ≡ some f → f ≤ top64
+  pub floor_word_small : (f : ℕ) → reg.floor ≡ Some f → f ≤ top64
   floor_word_small f e =
       let h = first_words heading (feeders ++ (peers ++ own)) w in
       let k = h.1.1.1.1.1.1.1.1.1.0 in

@@ -5,7 +5,7 @@ use native.Mathlib.Omega.{arith}
 use mathlib.Core.Path.{◌≡◌, refl, sym, ◌∙◌, ap, subst}
 use mathlib.Core.Bool.{Bool, true, false, and-true, and-false}
 use mathlib.Core.List.{List, [], ◌∷◌}
-use mathlib.Core.Option.{Option, none, some}
+use Rattle.std.specs.Prelude.{Option, Some, None}
 use lib.Dec.{eqb}
 use lib.ListN.{length, length-append}
 use borrow.Author.Tests.{eqb-true, eq-eqb, leb-false}
@@ -40,8 +40,8 @@ use Rattle.model.proofs.Still.{edge_in, verdict_still}
 -- ---- how many stamps are tried
 edge_few : (w : Window) (ms : ℕ) (f : Option ℕ) → length (edge_stamps w ms f) ≤ 4
 unfolding edge_stamps floor_stamps
-edge_few w ms none = omega arith
-edge_few w ms (some n) = omega arith
+edge_few w ms None = omega arith
+edge_few w ms (Some n) = omega arith
 
 bucket_few : (u : Usable) (b n : ℕ) → length (bucket_stamps u b n) ≡ n
 unfolding bucket_stamps
@@ -75,8 +75,8 @@ first_short u b = omega arith
 
 edge_short : (w : Window) (ms : ℕ) (f : Option ℕ) → ms ≤ top64 → All Short (edge_stamps w ms f)
 unfolding edge_stamps floor_stamps cap64 All
-edge_short w ms none small = (omega arith, (omega arith, (omega arith, tt)))
-edge_short w ms (some n) small = (omega arith, (omega arith, (omega arith, (omega arith, tt))))
+edge_short w ms None small = (omega arith, (omega arith, (omega arith, tt)))
+edge_short w ms (Some n) small = (omega arith, (omega arith, (omega arith, (omega arith, tt))))
 
 bucket_short : (u : Usable) (b n : ℕ) → All Short (bucket_stamps u b n)
 unfolding bucket_stamps All
@@ -116,7 +116,7 @@ module _ (u : Usable) (fit : UsableBounds u) (b : Shares) (reg : Register) (ok :
   pub found_fine : HasIt gives Fine (stamp_for u b reg k a wanted)
   unfolding stamp_for
   found_fine =
-      least_has gives Fine list none
+      least_has gives Fine list None
       (λ c o m. record { gives = same_is wanted (batch_at u b reg k a c) m; short = all_at Short o (all_short u (sweep u a.ms reg) a small) }) tt
 
   -- and is no more than any stamp that gives it
@@ -125,8 +125,8 @@ module _ (u : Usable) (fit : UsableBounds u) (b : Shares) (reg : Register) (ok :
   zero_in = edge_in u (sweep u a.ms reg) a 0 first
 
   further_up : (x y : ℕ) (o : Option ℕ) → x ≤ y → UpTo x o → UpTo y o
-  further_up x y none h l = l
-  further_up x y (some z) h l = omega arith
+  further_up x y None h l = l
+  further_up x y (Some z) h l = omega arith
 
   pub found_smallest : (y : ℕ) → y ≤ top64 → batch_at u b reg k a y ≡ wanted → UpTo y (stamp_for u b reg k a wanted)
   unfolding stamp_for
@@ -134,7 +134,7 @@ module _ (u : Usable) (fit : UsableBounds u) (b : Shares) (reg : Register) (ok :
       let l = last_before (λ c. OneOf c list) list 0 y zero_in (omega arith) (λ c o. o) in
       let same = verdict_still u fit b reg k a small l.last y l.on top (sweep_ok u a.ms reg ok) l.still in
       let m : gives l.last ≡ true = eq-eqb (verdict_number wanted) (verdict_number (batch_at u b reg k a l.last)) (ap verdict_number (sym (same ∙ e))) in
-      further_up l.last y (least_from gives list none) l.on (least_reaches gives l.last list none l.its m)
+      further_up l.last y (least_from gives list None) l.on (least_reaches gives l.last list None l.its m)
 
 said_is : (v w : Verdict) → Said v ≡ Said w → v ≡ w
 said_is v w e = cc
@@ -150,8 +150,8 @@ module _ (st ws : List ℕ) (r : ℕ) (q : Seeking) where
   not_listed e = rw (e, and-false (asking_fits (asking_at 0 q)), and-false) refl
 
   told_of : (o : Option ℕ) → Told (stamp_answer o)
-  told_of none = nowhere
-  told_of (some x) = at x
+  told_of None = nowhere
+  told_of (Some x) = at x
 
   -- what a call that goes through answers, and what `take_batch` would
   module _ (small : q.ms ≤ top64) (z : refused st ws (seek_call r q) ≡ 0) where
@@ -196,9 +196,9 @@ module _ (st ws : List ℕ) (r : ℕ) (q : Seeking) where
     few_tried = few_stamps u (sweep u q.ms (register_at r t)) a (sweep_ok u q.ms (register_at r t) register_ok)
 
     -- a stamp
-    is_at : (x : ℕ) (o : Option ℕ) → stamp_answer o ≡ StampAt x → o ≡ some x
-    is_at x none e = no (cc)
-    is_at x (some y) e = cc
+    is_at : (x : ℕ) (o : Option ℕ) → stamp_answer o ≡ StampAt x → o ≡ Some x
+    is_at x None e = no (cc)
+    is_at x (Some y) e = cc
 
     fine : (x : ℕ) → reply st ws (seek_call r q) ≡ StampAt x → Fine u bounds s.shares (register_at r t) register_ok t.book a small (verdict_of q.wanted) x
     fine x e =
@@ -219,9 +219,9 @@ module _ (st ws : List ℕ) (r : ℕ) (q : Seeking) where
   unfolding went_through
   none_zero e = through_zero st ws (seek_call r q) (ap went_through e)
 
-  is_none : (o : Option ℕ) → stamp_answer o ≡ NoStamp → o ≡ none
-  is_none none e = refl
-  is_none (some y) e = no (cc)
+  is_none : (o : Option ℕ) → stamp_answer o ≡ NoStamp → o ≡ None
+  is_none None e = refl
+  is_none (Some y) e = no (cc)
 
   refused_told : eqb (refused st ws (seek_call r q)) 0 ≡ false → Told (reply st ws (seek_call r q))
   unfolding reply

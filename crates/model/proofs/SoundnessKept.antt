@@ -4,11 +4,13 @@ use native.Mathlib.Omega.{arith}
 use mathlib.Core.Path.{◌≡◌, refl, ap, ◌∙◌}
 use mathlib.Core.Bool.{true}
 use mathlib.Core.List.{List}
-use mathlib.Core.Option.{Option, none, some}
+use Rattle.std.specs.Prelude.{Option, Some, None}
 use lib.Dec.{eqb}
 use lib.ListN.{length, get_or, length-set, length-replicate}
 use Rattle.model.specs.declared.Class.{Class}
 use Rattle.model.specs.declared.Class.TheVariants.{Feeders, Peers, Own}
+use Rattle.model.specs.declared.Manner.{Manner}
+use Rattle.model.specs.declared.Manner.TheVariants.{Judged, JudgedBatch, Taken, TakenBatch}
 use Rattle.model.specs.declared.Settings.{Settings}
 use Rattle.runs.specs.Combine.{EachOk}
 use Rattle.runs.proofs.Cases.{both_true}
@@ -23,7 +25,7 @@ use Rattle.model.specs.Dump.{Dump}
 use Rattle.model.specs.BookWords.{class_form}
 use Rattle.model.specs.RegisterWords.{register_form}
 use Rattle.model.specs.Words.{State, front_spare, unused_width, state_form}
-use Rattle.model.specs.Calls.{Manner, judged, judged_batch, taken, taken_batch, Step, no_register, register_at, with_register, with_book, start_all, opened}
+use Rattle.model.specs.Calls.{Step, no_register, register_at, with_register, with_book, start_all, opened}
 use Rattle.model.specs.Calls.{after_judged, after_taken, asked, after_restored, restored, resumed, starts_fit, limits_words_fit, codes_fit}
 use Rattle.model.specs.Soundness.{OpenedSound}
 use Rattle.model.proofs.Bounds.{slots_small, fit_shares, fit_usable}
@@ -115,12 +117,12 @@ module _ (s : Settings) where
 
     pub asked_ok : (m : Manner) (a : Ask) → After (asked s r m a t)
     unfolding asked after_judged after_taken judge_batch
-    asked_ok judged a = with_register_ok r _ t (judge_ok (usable_at s r) (register_at r t) a reg_ok) ok
-    asked_ok judged_batch a = with_register_ok r _ t (judge_ok (usable_at s r) (register_at r t) a reg_ok) ok
-    asked_ok taken a =
+    asked_ok Judged a = with_register_ok r _ t (judge_ok (usable_at s r) (register_at r t) a reg_ok) ok
+    asked_ok JudgedBatch a = with_register_ok r _ t (judge_ok (usable_at s r) (register_at r t) a reg_ok) ok
+    asked_ok Taken a =
         let p = take_ok (usable_at s r) s.shares (register_at r t) t.book a small some_pairs reg_ok (book_in t ok) in
         both_ok _ _ p.0 p.1
-    asked_ok taken_batch a =
+    asked_ok TakenBatch a =
         let p = take_batch_ok (usable_at s r) s.shares (register_at r t) t.book a small some_pairs reg_ok (book_in t ok) in
         both_ok _ _ p.0 p.1
 
@@ -129,15 +131,15 @@ module _ (s : Settings) where
 
     pub restored_ok : (d : Option Dump) → After (restored s r t d)
     unfolding restored after_restored
-    restored_ok none = ok
-    restored_ok (some d) =
+    restored_ok None = ok
+    restored_ok (Some d) =
         let p = restore_fine (usable_at s r) s.shares small some_pairs d (register_at r t) t.book fine in
         both_ok _ _ p.register p.book
 
     pub resumed_ok : (proven : Option ℕ) (d : Option Dump) → After (resumed s r t proven d)
     unfolding resumed after_restored
-    resumed_ok proven none = ok
-    resumed_ok proven (some d) =
+    resumed_ok proven None = ok
+    resumed_ok proven (Some d) =
         let p = resume_fine (usable_at s r) s.shares small some_pairs d proven (register_at r t) t.book fine in
         both_ok _ _ p.register p.book
 

@@ -6,6 +6,8 @@ use mathlib.Core.List.{List, [], ◌∷◌, map}
 use lib.ListN.{replicate}
 use Rattle.runs.specs.Chunks.{flat}
 use Rattle.model.specs.declared.Class.TheVariants.{Feeders}
+use Rattle.model.specs.declared.Manner.{Manner}
+use Rattle.model.specs.declared.Manner.TheVariants.{Judged, JudgedBatch, Taken, TakenBatch}
 use Rattle.model.specs.declared.Verdict.TheVariants.{New, Duplicate, Late, Ahead, Full, Unjudged}
 use Rattle.model.specs.Answer.{Refused, Done, Said, Yes, No, Begun, Already, Whole, Partly, NoFloor, FloorAt, Entries, Totals}
 use Rattle.model.specs.Settings.{settings_of, usable_at}
@@ -13,7 +15,7 @@ use Rattle.model.specs.Codes.{verdict_number, answer_number}
 use Rattle.model.specs.Book.{second_of}
 use Rattle.model.specs.Register.{generation_at}
 use Rattle.model.specs.Dump.{Dumped, Holding, Restoring, word_bytes, tried, restore_class}
-use Rattle.model.specs.Calls.{Manner, judged, judged_batch, taken, taken_batch, Ticket, ContainsHash, Begin, Sweep, DumpTo, Resume, Floor, Pending, SweptBucket}
+use Rattle.model.specs.Calls.{Ticket, ContainsHash, Begin, Sweep, DumpTo, Resume, Floor, Pending, SweptBucket}
 use Rattle.model.specs.Calls.{Asking, Explain, Seeking, StampFor, ViewRegister, Call, Open, On, Expire, HeldBy, ClassTotals, ViewDeliverer}
 use Rattle.model.specs.Calls.{only_reads, register_at, held_in}
 use Rattle.model.specs.View.{answered, left_by, words_after}
@@ -54,10 +56,10 @@ reads = (refl, refl)
 abbrev unflagged : Manner → Call
 unflagged m = On 0 (Ticket m (record { fp = 9; stamp = 8; ms = 8; flag = 0; kind = 0; number = 1 }))
 
-pub flag_off : moments (left_by opened_words (given (ask taken 1 7 6)))
-    (given (unflagged judged) ∷ given (unflagged judged_batch) ∷ given (unflagged taken) ∷ given (unflagged taken_batch) ∷ given (On 0 Floor) ∷ [])
-    ≡ Answered (unflagged judged) (Said Unjudged) ∷ Answered (unflagged judged_batch) (Said Unjudged) ∷ Answered (unflagged taken) (Said Unjudged)
-    ∷ Answered (unflagged taken_batch) (Said Unjudged) ∷ Answered (On 0 Floor) NoFloor ∷ []
+pub flag_off : moments (left_by opened_words (given (ask Taken 1 7 6)))
+    (given (unflagged Judged) ∷ given (unflagged JudgedBatch) ∷ given (unflagged Taken) ∷ given (unflagged TakenBatch) ∷ given (On 0 Floor) ∷ [])
+    ≡ Answered (unflagged Judged) (Said Unjudged) ∷ Answered (unflagged JudgedBatch) (Said Unjudged) ∷ Answered (unflagged Taken) (Said Unjudged)
+    ∷ Answered (unflagged TakenBatch) (Said Unjudged) ∷ Answered (On 0 Floor) NoFloor ∷ []
 unfolding compute_all
 flag_off = refl
 
@@ -65,16 +67,16 @@ abbrev pub open_fallback : Call
 open_fallback = Open (replicate 5 4) (1 ∷ replicate 7 0)
 
 pub begun_once : moments words
-    (given open_fallback ∷ given (ask taken 1 7 6) ∷ given (On 0 (Begin 5)) ∷ given (On 0 (Begin 9)) ∷ given (On 0 Floor) ∷ given (ask taken 1 7 6) ∷ [])
-    ≡ Answered open_fallback Done ∷ Answered (ask taken 1 7 6) (Said Unjudged) ∷ Answered (On 0 (Begin 5)) Begun ∷ Answered (On 0 (Begin 9)) Already
-    ∷ Answered (On 0 Floor) (FloorAt 5) ∷ Answered (ask taken 1 7 6) (Said New) ∷ []
+    (given open_fallback ∷ given (ask Taken 1 7 6) ∷ given (On 0 (Begin 5)) ∷ given (On 0 (Begin 9)) ∷ given (On 0 Floor) ∷ given (ask Taken 1 7 6) ∷ [])
+    ≡ Answered open_fallback Done ∷ Answered (ask Taken 1 7 6) (Said Unjudged) ∷ Answered (On 0 (Begin 5)) Begun ∷ Answered (On 0 (Begin 9)) Already
+    ∷ Answered (On 0 Floor) (FloorAt 5) ∷ Answered (ask Taken 1 7 6) (Said New) ∷ []
 unfolding compute_all
 begun_once = refl
 
 -- ---- floors: a ticket is swept away and the floor is 6. The clock steps back, a restore comes out Partly with an older newest stamp,
 -- and an opening is refused: the floor is told as 6; a later sweep raises it to 8. A resume forgets it, or proves another
 abbrev swept_words : List ℕ
-swept_words = words_after opened_words (given (ask taken 1 7 6) ∷ given (On 0 (Sweep 8)) ∷ given (ask taken 1 8 8) ∷ [])
+swept_words = words_after opened_words (given (ask Taken 1 7 6) ∷ given (On 0 (Sweep 8)) ∷ given (ask Taken 1 8 8) ∷ [])
 
 pub floor_stands_still : (answered swept_words (given (On 0 Floor)) ≡ FloorAt 6)
     × ((forgotten_among 0 swept_words (given (On 0 (Sweep 0)) ∷ given three_more ∷ record { settings = []; call = open_at 4 } ∷ []) ≡ false)
@@ -95,15 +97,15 @@ floor_resumed = refl
 
 -- ---- contains_hash: 7 is held in bucket 3, at position 1 of two
 pub found_at_position_1 : moments opened_words
-    (given (On 0 (ContainsHash 7)) ∷ given (ask taken 1 7 6) ∷ given (On 0 (ContainsHash 7)) ∷ given (On 0 (ContainsHash 9)) ∷ [])
-    ≡ Answered (On 0 (ContainsHash 7)) No ∷ Answered (ask taken 1 7 6) (Said New) ∷ Answered (On 0 (ContainsHash 7)) Yes
+    (given (On 0 (ContainsHash 7)) ∷ given (ask Taken 1 7 6) ∷ given (On 0 (ContainsHash 7)) ∷ given (On 0 (ContainsHash 9)) ∷ [])
+    ≡ Answered (On 0 (ContainsHash 7)) No ∷ Answered (ask Taken 1 7 6) (Said New) ∷ Answered (On 0 (ContainsHash 7)) Yes
     ∷ Answered (On 0 (ContainsHash 9)) No ∷ []
 unfolding compute_all
 found_at_position_1 = refl
 
 -- ---- a failed generation: three fingerprints find no room, and the floor is 6, the newest stamp of what is dropped; the dump's is 5
-pub floor_of_the_failed : moments opened_words (given (ask taken 1 7 6) ∷ given three_more ∷ given (On 0 Floor) ∷ [])
-    ≡ Answered (ask taken 1 7 6) (Said New) ∷ Answered three_more (Partly 80) ∷ Answered (On 0 Floor) (FloorAt 6) ∷ []
+pub floor_of_the_failed : moments opened_words (given (ask Taken 1 7 6) ∷ given three_more ∷ given (On 0 Floor) ∷ [])
+    ≡ Answered (ask Taken 1 7 6) (Said New) ∷ Answered three_more (Partly 80) ∷ Answered (On 0 Floor) (FloorAt 6) ∷ []
 unfolding compute_all
 floor_of_the_failed = refl
 
@@ -125,17 +127,17 @@ second_fails = (refl, refl)
 
 -- ---- the settings of the worked cases. Late and Ahead: behind the window both say Late, past its front judge says Late
 pub late_and_ahead : answers_from paper_settings before
-    (open_ample ∷ ask_of_kind judged 0 1 100_000 7 89_999 ∷ ask_of_kind judged_batch 0 1 100_000 7 89_999 ∷ ask_of_kind judged 0 1 100_000 7 102_001
-    ∷ ask_of_kind judged_batch 0 1 100_000 7 102_001 ∷ [])
+    (open_ample ∷ ask_of_kind Judged 0 1 100_000 7 89_999 ∷ ask_of_kind JudgedBatch 0 1 100_000 7 89_999 ∷ ask_of_kind Judged 0 1 100_000 7 102_001
+    ∷ ask_of_kind JudgedBatch 0 1 100_000 7 102_001 ∷ [])
     ≡ Done ∷ Said Late ∷ Said Late ∷ Said Late ∷ Said Ahead ∷ []
 unfolding compute_all served answers_from
 late_and_ahead = refl
 
 -- a Feeder, a Peer, a Relay and a Restored: New within its window, and Late where no window reaches
 pub within_and_behind : answers_from paper_settings before
-    (open_ample ∷ ask_of_kind judged 0 1 100_000 7 90_000 ∷ ask_of_kind judged 1 1 100_000 7 90_000 ∷ ask_of_kind judged 2 0 100_000 7 90_000
-    ∷ ask_of_kind judged 3 0 100_000 7 90_000 ∷ ask_of_kind judged 0 1 100_000 7 79_999 ∷ ask_of_kind judged 1 1 100_000 7 79_999
-    ∷ ask_of_kind judged 2 0 100_000 7 79_999 ∷ ask_of_kind judged 3 0 100_000 7 79_999 ∷ [])
+    (open_ample ∷ ask_of_kind Judged 0 1 100_000 7 90_000 ∷ ask_of_kind Judged 1 1 100_000 7 90_000 ∷ ask_of_kind Judged 2 0 100_000 7 90_000
+    ∷ ask_of_kind Judged 3 0 100_000 7 90_000 ∷ ask_of_kind Judged 0 1 100_000 7 79_999 ∷ ask_of_kind Judged 1 1 100_000 7 79_999
+    ∷ ask_of_kind Judged 2 0 100_000 7 79_999 ∷ ask_of_kind Judged 3 0 100_000 7 79_999 ∷ [])
     ≡ Done ∷ Said New ∷ Said New ∷ Said New ∷ Said New ∷ Said Late ∷ Said Late ∷ Said Late ∷ Said Late ∷ []
 unfolding compute_all served answers_from
 within_and_behind = refl
@@ -147,7 +149,7 @@ draw_ends = refl
 
 -- expire at 120 s: of Feeder 1's entries that of second 120 stays and that of second 119 goes; Feeder 2 had one of 119 alone, and goes
 pub expired_at_120 : answers_from paper_settings before
-    (open_ample ∷ take_it 7 100_000 ∷ take_it 7 99_000 ∷ ask_of_kind taken 0 2 100_000 8 99_000 ∷ ClassTotals 0 ∷ On 0 (Sweep 120_000) ∷ Expire 120_000
+    (open_ample ∷ take_it 7 100_000 ∷ take_it 7 99_000 ∷ ask_of_kind Taken 0 2 100_000 8 99_000 ∷ ClassTotals 0 ∷ On 0 (Sweep 120_000) ∷ Expire 120_000
     ∷ HeldBy 0 1 ∷ HeldBy 0 2 ∷ ClassTotals 0 ∷ [])
     ≡ Done ∷ Said New ∷ Said New ∷ Said New ∷ Totals 3 2 5 0 ∷ Done ∷ Done ∷ Entries 1 ∷ Entries 0 ∷ Totals 1 1 2 120 ∷ []
 unfolding compute_all served answers_from

@@ -8,7 +8,7 @@ use Prim.Native.Nat.{ℕ, ◌+◌, ◌-◌, ◌≤◌, ◌<◌, max}
 use native.Mathlib.Omega.{arith}
 use mathlib.Core.Path.{◌≡◌, refl, sym, ◌∙◌, subst}
 use mathlib.Core.Bool.{Bool, true, false, cond, not}
-use mathlib.Core.Option.{Option, none, some}
+use Rattle.std.specs.Prelude.{Option, Some, None}
 use lib.Dec.{leb, eqb}
 use lib.ListN.{get_or, set}
 use lib.Seq.{get_or-set_same}
@@ -17,6 +17,8 @@ use Rattle.model.specs.declared.Class.{Class}
 use Rattle.model.specs.declared.Class.TheVariants.{Feeders, Peers, Own}
 use Rattle.model.specs.declared.Deliverer.{Deliverer}
 use Rattle.model.specs.declared.Deliverer.TheVariants.{Feeder, Peer, Relay, Restored}
+use Rattle.model.specs.declared.Manner.{Manner}
+use Rattle.model.specs.declared.Manner.TheVariants.{Judged, JudgedBatch, Taken as TakenManner, TakenBatch}
 use Rattle.model.specs.declared.Settings.{Settings}
 use Rattle.model.specs.declared.Shares.{Shares}
 use Rattle.model.specs.declared.Start.{Start}
@@ -34,7 +36,7 @@ use Rattle.model.specs.Register.{Ring, Register, generation_at, with_generation,
 use Rattle.model.specs.Judge.{Ask, bucket_of, window_for, front_past, unjudged, verdict, Judgement, judge, ahead_for}
 use Rattle.model.specs.Judge.{judge_batch, collides, make_room, Taken, take_room, take_share, take_judged, take, take_batch}
 use Rattle.model.specs.Words.{State, state_form}
-use Rattle.model.specs.Calls.{Manner, judged, judged_batch, taken, taken_batch, Asking, manner_sort, Ticket, Begin, Sweep, On}
+use Rattle.model.specs.Calls.{Asking, manner_sort, Ticket, Begin, Sweep, On}
 use Rattle.model.specs.Calls.{Sort, Asks, Takes, Plain, OnOne, Meaning, meaning, done_on, asked, after_judged, after_taken, ask_of}
 use Rattle.model.specs.Calls.{reading_of_ask, no_register, register_at}
 use Rattle.model.specs.Steady.{reading_on, kind_taking}
@@ -51,8 +53,8 @@ pub record Fresh (u : Usable) (last : ℕ) (reg : Register) : Type 0 where
 
 -- a reading, where there is one, is at most this
 abbrev pub AtMost : Option ℕ → ℕ → Type 0
-AtMost none now = Unit {0}
-AtMost (some ms) now = ms ≤ now
+AtMost None now = Unit {0}
+AtMost (Some ms) now = ms ≤ now
 
 -- a take with this reading, or what brings none, leaves another register: it is kept with every reading that is no lower than either
 abbrev pub Kept : Usable → Register → Option ℕ → Register → Type 0
@@ -141,9 +143,9 @@ module _ (u : Usable) (fit : UsableBounds u) where
 
   pub started_fresh : (last : ℕ) (s : Start) → Fresh u last (started u s)
   unfolding started
-  started_fresh last Empty = start_fresh last none false
-  started_fresh last Fallback = start_fresh last none true
-  started_fresh last (AtFloor f) = start_fresh last (some f) false
+  started_fresh last Empty = start_fresh last None false
+  started_fresh last Fallback = start_fresh last None true
+  started_fresh last (AtFloor f) = start_fresh last (Some f) false
 
 -- ---- the spans of every deliverer's window are at most the larger ones
 window_behind : (u : Usable) (who : Deliverer) → (window_for u who).behind ≤ retained u
@@ -203,22 +205,22 @@ module _ (u : Usable) (fit : UsableBounds u) (a : Ask) (small : a.ms ≤ top64) 
 
 -- ---- judge, take and their batch forms: they use no reading where they answer Unjudged
 abbrev pub used : Register → Ask → Option ℕ
-used reg a = cond (unjudged reg a) none (some a.ms)
+used reg a = cond (unjudged reg a) None (Some a.ms)
 
-used_is : (reg : Register) (a : Ask) → cond reg.pending none (reading_of_ask a) ≡ used reg a
+used_is : (reg : Register) (a : Ask) → cond reg.pending None (reading_of_ask a) ≡ used reg a
 unfolding unjudged
 used_is reg a =
     by_test reg.pending (λ p. rw p refl) (λ p. by_test a.judging (λ j. rw (p, j) refl) (λ j. rw (p, j) refl))
 
 module _ (u : Usable) (reg : Register) (a : Ask) where
-  judge_cases : (P : Option ℕ → Judgement → Type 0) → P none (record { says = Unjudged; register = reg })
-      → (reg.pending ≡ false → P (some a.ms) (record { says = verdict u (sweep u a.ms reg) a; register = sweep u a.ms reg })) → P (used reg a) (judge u reg a)
+  judge_cases : (P : Option ℕ → Judgement → Type 0) → P None (record { says = Unjudged; register = reg })
+      → (reg.pending ≡ false → P (Some a.ms) (record { says = verdict u (sweep u a.ms reg) a; register = sweep u a.ms reg })) → P (used reg a) (judge u reg a)
   unfolding judge unjudged
   judge_cases P f g = by_test (unjudged reg a) (λ e. rw e f) (λ e. rw e (g (or_false reg.pending (not a.judging) e).0))
 
   module _ (fit : UsableBounds u) where
     -- judge brings no reading that counts
-    pub judge_fresh : Kept u reg none (judge u reg a).register
+    pub judge_fresh : Kept u reg None (judge u reg a).register
     judge_fresh last now h small m f =
         judge_cases (λ (o : Option ℕ) (j : Judgement). Fresh u now j.register) (fresh_later u fit last now reg h f)
         (λ e. sweep_fresh u fit now a.ms reg (fresh_later u fit last now reg h f))
@@ -291,39 +293,39 @@ module _ (s : Settings) (fit : settings_fit s ≡ true) (r : ℕ) (low : r < s.r
       by_test (eqb r q) (λ e. subst (λ (j : ℕ). FreshKept (m j) s t r) (eqb-true r q e) own) (λ e. left_fresh (m q) (aside (eqb-false r q e)))
 
   -- the reading of a call on it, and the register that is put there
-  reading_here : (d : Sort) (ms : Option ℕ) → reading_on r (OnOne r d) ms t ≡ cond (register_at r t).pending none ms
+  reading_here : (d : Sort) (ms : Option ℕ) → reading_on r (OnOne r d) ms t ≡ cond (register_at r t).pending None ms
   unfolding reading_on
   reading_here d ms = rw (eq-eqb r r refl) (by_test (register_at r t).pending (λ e. rw e refl) (λ e. rw e refl))
 
   module _ (ok : (state_form s).Ok t) where
-    here : (d : Sort) (ms o : Option ℕ) (reg : Register) → cond (register_at r t).pending none ms ≡ o → Kept (usable_at s r) (register_at r t) o reg
+    here : (d : Sort) (ms o : Option ℕ) (reg : Register) → cond (register_at r t).pending None ms ≡ o → Kept (usable_at s r) (register_at r t) o reg
         → Kept (usable_at s r) (register_at r t) (reading_on r (OnOne r d) ms t) (get_or (set t.registers r reg) r no_register)
     here d ms o reg e k =
         subst (λ (x : Option ℕ). Kept (usable_at s r) (register_at r t) x (get_or (set t.registers r reg) r no_register)) (sym (reading_here d ms ∙ e))
         (subst (λ (x : Register). Kept (usable_at s r) (register_at r t) o x) (sym (get_or-set_same t.registers r reg no_register (there s r t ok low))) k)
 
     -- what brings no reading that counts
-    unread : cond {A = Option ℕ} (register_at r t).pending none none ≡ none
+    unread : cond {A = Option ℕ} (register_at r t).pending None None ≡ None
     unread = by_test (register_at r t).pending (λ e. rw e refl) (λ e. rw e refl)
 
     -- ---- judge, take and their batch forms on it, sweep and begin
     pub asked_fresh : (m : Manner) (a : Asking) → FreshKept (meaning (On r (Ticket m a))) s t r
     unfolding meaning done_on asked after_judged after_taken manner_sort judge_batch kind_taking
-    asked_fresh judged a = here (Asks a) _ _ _ unread (judge_fresh (usable_at s r) (register_at r t) (ask_of a) bounds_at)
-    asked_fresh judged_batch a = here (Asks a) _ _ _ unread (judge_fresh (usable_at s r) (register_at r t) (ask_of a) bounds_at)
-    asked_fresh taken a =
+    asked_fresh Judged a = here (Asks a) _ _ _ unread (judge_fresh (usable_at s r) (register_at r t) (ask_of a) bounds_at)
+    asked_fresh JudgedBatch a = here (Asks a) _ _ _ unread (judge_fresh (usable_at s r) (register_at r t) (ask_of a) bounds_at)
+    asked_fresh TakenManner a =
         here (Takes a) _ _ _ (used_is (register_at r t) (ask_of a)) (take_fresh (usable_at s r) (register_at r t) (ask_of a) bounds_at s.shares t.book)
-    asked_fresh taken_batch a =
+    asked_fresh TakenBatch a =
         here (Takes a) _ _ _ (used_is (register_at r t) (ask_of a)) (take_batch_fresh (usable_at s r) (register_at r t) (ask_of a) bounds_at s.shares t.book)
 
     pub sweep_on_fresh : (ms : ℕ) → FreshKept (meaning (On r (Sweep ms))) s t r
     unfolding meaning done_on kind_taking
     sweep_on_fresh ms =
-        here Plain none none _ unread
+        here Plain None None _ unread
         (λ last now h small a f. sweep_fresh (usable_at s r) bounds_at now ms (register_at r t) (fresh_later (usable_at s r) bounds_at last now (register_at r t) h f))
 
     pub begin_on_fresh : (number : ℕ) → FreshKept (meaning (On r (Begin number))) s t r
     unfolding meaning done_on kind_taking
     begin_on_fresh number =
-        here Plain none none _ unread
+        here Plain None None _ unread
         (λ last now h small a f. begin_fresh (usable_at s r) bounds_at now number (register_at r t) (fresh_later (usable_at s r) bounds_at last now (register_at r t) h f))

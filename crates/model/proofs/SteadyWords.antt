@@ -6,9 +6,10 @@ use native.Mathlib.Omega.{arith}
 use mathlib.Core.Path.{◌≡◌, refl, sym, ◌∙◌, subst}
 use mathlib.Core.Bool.{Bool, true, false, cond, not, ◌&&◌}
 use mathlib.Core.List.{List, [], ◌∷◌}
-use mathlib.Core.Option.{Option, none, some}
+use Rattle.std.specs.Prelude.{Option, Some, None}
 use lib.ListN.{get_or}
 use borrow.Author.Tests.{leb-true, leb-false, not-true}
+use Rattle.model.specs.declared.Manner.TheVariants.{Judged}
 use Rattle.model.specs.declared.Settings.{Settings}
 use Rattle.model.specs.declared.Verdict.{Verdict}
 use Rattle.model.specs.declared.Verdict.TheVariants.{Late}
@@ -19,7 +20,7 @@ use Rattle.model.specs.Settings.{settings_of, usable_at}
 use Rattle.model.specs.Codes.{start_of, went_through}
 use Rattle.model.specs.Register.{Register}
 use Rattle.model.specs.Words.{State}
-use Rattle.model.specs.Calls.{judged, Ticket, Call, On, Kind, Opens, OnOne, Sets, Other, opens, kind, reading_of, is_open, no_such_register}
+use Rattle.model.specs.Calls.{Ticket, Call, On, Kind, Opens, OnOne, Sets, Other, opens, kind, reading_of, is_open, no_such_register}
 use Rattle.model.specs.Calls.{ask_of, register_at, opened, step, held_in, refused, reply, after}
 use Rattle.model.specs.View.{Given, answered, left_by, words_after}
 use Rattle.model.specs.Soundness.{Vetted}
@@ -45,23 +46,23 @@ pub record FreshOn (r : ℕ) (c : Clock) (ws : List ℕ) : Type 0 where
       → FreshHeld r c.last st ws
 
 abbrev pub FreshIf : ℕ → Option Clock → List ℕ → Type 0
-FreshIf r none ws = Unit {0}
-FreshIf r (some c) ws = FreshOn r c ws
+FreshIf r None ws = Unit {0}
+FreshIf r (Some c) ws = FreshOn r c ws
 
 -- the readings that are looked at have those of takes among them
 abbrev pub HasTakes : Readings → Type 0
-HasTakes brings = (call : Call) (ms : ℕ) → taking_of call ≡ some ms → brings call ≡ some ms
+HasTakes brings = (call : Call) (ms : ℕ) → taking_of call ≡ Some ms → brings call ≡ Some ms
 
 -- so the last reading is at least that of a take
-covers : (b : Bool) (x y : Option ℕ) (last : ℕ) → ((ms : ℕ) → x ≡ some ms → y ≡ some ms) → AtMost (cond b x none) (latest (cond b y none) last)
-covers true none y last h = tt
-covers true (some ms) y last h = rw (h ms refl) (omega arith)
+covers : (b : Bool) (x y : Option ℕ) (last : ℕ) → ((ms : ℕ) → x ≡ Some ms → y ≡ Some ms) → AtMost (cond b x None) (latest (cond b y None) last)
+covers true None y last h = tt
+covers true (Some ms) y last h = rw (h ms refl) (omega arith)
 covers false x y last h = tt
 
 -- and at least the one before it
 rises : (o : Option ℕ) (last : ℕ) → no_fall o last ≡ true → last ≤ latest o last
-rises none last e = omega arith
-rises (some ms) last e = leb-true last ms e
+rises None last e = omega arith
+rises (Some ms) last e = leb-true last ms e
 
 -- ---- a call that went through
 module _ (r : ℕ) (st ws : List ℕ) (call : Call) (z : refused st ws call ≡ 0) where
@@ -114,8 +115,8 @@ module _ (r : ℕ) (st ws : List ℕ) (call : Call) (z : refused st ws call ≡ 
 
   then_fresh : (brings : Readings) → HasTakes brings → (c : Option Clock) → is_open call ≡ false → FreshIf r c ws
       → FreshIf r (ticked_if brings r call (held_in (settings_of st) ws) c) (after st ws call)
-  then_fresh brings has none shut k = tt
-  then_fresh brings has (some c) shut k = later_fresh brings has c shut k
+  then_fresh brings has None shut k = tt
+  then_fresh brings has (Some c) shut k = later_fresh brings has c shut k
 
 -- ---- any call: a refused one leaves all as it was
 module _ (r : ℕ) (brings : Readings) (has : HasTakes brings) where
@@ -136,8 +137,8 @@ module _ (r : ℕ) (brings : Readings) (has : HasTakes brings) where
 
   -- ---- among events: what stands aside leaves the register
   aside_fresh : (c : Option Clock) (ws after : List ℕ) → LeavesAlone r ws after → FreshIf r c ws → FreshIf r c after
-  aside_fresh none ws after l k = tt
-  aside_fresh (some c) ws after l k = record {
+  aside_fresh None ws after l k = tt
+  aside_fresh (Some c) ws after l k = record {
     fresh = λ u n small st v low.
         subst (λ (x : Register). Fresh (usable_at (settings_of st) r) c.last x) (sym (l.same st v)) (k.fresh u n small st (l.was_vetted st v) low);
   }
@@ -147,7 +148,7 @@ module _ (r : ℕ) (brings : Readings) (has : HasTakes brings) where
   unfolding clock_among words_among left_by_event
   events_fresh [] c ws a k = k
   events_fresh (Calls gs ∷ es) c ws a k = events_fresh es (clock_since brings r c ws gs) (words_after ws gs) a.1 (list_fresh gs c ws k)
-  events_fresh (Replaces after ∷ es) c ws a k = events_fresh es none after a.1 tt
+  events_fresh (Replaces after ∷ es) c ws a k = events_fresh es None after a.1 tt
   events_fresh (Aside after ∷ es) c ws a k = events_fresh es c after a.1 (aside_fresh c ws after a.0 k)
 
 -- ---- the promise, on words of which it is kept
@@ -158,11 +159,11 @@ pub never_late : (r : ℕ) (c : Clock) (ws : List ℕ) → FreshOn r c ws → Ne
 unfolding went_through is_open no_such_register
 never_late r c ws k st a steady small says =
     let n = judged_new st ws r a says in
-    let through : went_through (reply st ws (On r (Ticket judged a))) ≡ true = rw says refl in
-    let v = vetted_before st ws (On r (Ticket judged a)) refl through in
+    let through : went_through (reply st ws (On r (Ticket Judged a))) ≡ true = rw says refl in
+    let v = vetted_before st ws (On r (Ticket Judged a)) refl through in
     let s = settings_of st in
     let t = held_in s ws in
-    let low = leb-false s.registers r (entered st ws (On r (Ticket judged a)) (through_zero st ws (On r (Ticket judged a)) through)).register in
+    let low = leb-false s.registers r (entered st ws (On r (Ticket Judged a)) (through_zero st ws (On r (Ticket Judged a)) through)).register in
     let now = steady.nor_this_one in
     let g = k.fresh steady.without_restore_or_resume steady.readings_never_fall (omega arith) st v low in
     let fit = usable_bounds (usable_at s r) (fit_usable s r (fit_settings st v.fit) low) in
@@ -185,12 +186,12 @@ takes_alone call ms e = e
 module _ (brings : Readings) (has : HasTakes brings) where
   in_a_list : (start : List ℕ) (calls : List Given) (r : ℕ) (c : Clock) → OpenedHere brings r start calls c → NeverLateOn r c (words_after start calls)
   in_a_list start calls r c e =
-      never_late r c (words_after start calls) (subst (λ (k : Option Clock). FreshIf r k (words_after start calls)) e (list_fresh r brings has calls none start tt))
+      never_late r c (words_after start calls) (subst (λ (k : Option Clock). FreshIf r k (words_after start calls)) e (list_fresh r brings has calls None start tt))
 
   among_events : (start : List ℕ) (events : List Event) → AmongEvents brings start events
   among_events start events r a c e =
       never_late r c (words_among start events)
-      (subst (λ (k : Option Clock). FreshIf r k (words_among start events)) e (events_fresh r brings has events none start a tt))
+      (subst (λ (k : Option Clock). FreshIf r k (words_among start events)) e (events_fresh r brings has events None start a tt))
 
 pub steady_any_reading : (start : List ℕ) (calls : List Given) → SteadyAnyReading start calls
 steady_any_reading = in_a_list reading_of sweeping

@@ -6,7 +6,7 @@ use native.Mathlib.Nat.{mod-lt}
 use mathlib.Core.Path.{◌≡◌, refl, sym, ◌∙◌, ap}
 use mathlib.Core.Bool.{true, false}
 use mathlib.Core.List.{List, [], ◌∷◌}
-use mathlib.Core.Option.{Option, none, some}
+use Rattle.std.specs.Prelude.{Option, Some, None}
 use mathlib.Core.Logic.{◌⊎◌, inl, inr}
 use lib.Dec.{leb, eqb}
 use lib.ListN.{length, get_or}
@@ -131,8 +131,8 @@ module _ (u : Usable) (p y : ℕ) (pos : 0 < u.bucket) (on : p ≤ y) (top : y �
   -- the floor
   pub under_still : (f : Option ℕ) → Still (floor_stamps f) p y → under p f ≡ under y f
   unfolding under cap64 floor_stamps All
-  under_still none still = refl
-  under_still (some n) still =
+  under_still None still = refl
+  under_still (Some n) still =
       by_test (leb y n) (λ e. let a = leb-true y n e in rw e (le-leb p n (omega arith)))
       (λ e. let a = leb-false y n e in
       by_test (leb p n) (λ d. let l = leb-true p n d in absurd (let b = still.0 (omega arith) in omega (arith, b))) (λ d. d ∙ sym e))

@@ -5,7 +5,7 @@ use native.Mathlib.Omega.{arith}
 use native.Mathlib.Nat.{mod-lt}
 use mathlib.Core.Path.{◌≡◌, refl, sym, subst}
 use mathlib.Core.Bool.{true}
-use mathlib.Core.Option.{Option, none, some}
+use Rattle.std.specs.Prelude.{Option, Some, None}
 use lib.Dec.{leb, eqb}
 use lib.ListN.{length, get_or, set, length-set}
 use lib.Seq.{get_or-set_same, get_or-set_other}
@@ -24,13 +24,13 @@ use Rattle.model.proofs.Choice.{true_false}
 -- ---- a stamp at or below the floor stays there
 pub under_raise : (t n : ℕ) (f : Option ℕ) → under t f ≡ true → under t (raise f n) ≡ true
 unfolding under raise
-under_raise t n none p = true_false p refl
-under_raise t n (some f) p = le-leb t (max f n) (omega (arith, leb-true t f p))
+under_raise t n None p = true_false p refl
+under_raise t n (Some f) p = le-leb t (max f n) (omega (arith, leb-true t f p))
 
 pub under_raised : (t n : ℕ) (f : Option ℕ) → t ≤ n → under t (raise f n) ≡ true
 unfolding under raise
-under_raised t n none h = le-leb t n h
-under_raised t n (some f) h = le-leb t (max f n) (omega arith)
+under_raised t n None h = le-leb t n h
+under_raised t n (Some f) h = le-leb t (max f n) (omega arith)
 
 -- ---- a generation, and so a ring, holds a ticket of bucket b
 pub record Keeps (b fp t : ℕ) (g : Generation) : Type 0 where

@@ -9,6 +9,8 @@ use borrow.Author.Tests.{leb-true, eqb-true}
 use Rattle.model.specs.declared.Class.{Class}
 use Rattle.model.specs.declared.Deliverer.{Deliverer}
 use Rattle.model.specs.declared.Draw.TheVariants.{Granted, Closed, OwnShare, ClassLimit}
+use Rattle.model.specs.declared.Manner.{Manner}
+use Rattle.model.specs.declared.Manner.TheVariants.{Judged, JudgedBatch, Taken as TakenManner, TakenBatch}
 use Rattle.model.specs.declared.Settings.{Settings}
 use Rattle.model.specs.declared.Shares.{Shares}
 use Rattle.model.specs.declared.Limits.{Limits}
@@ -21,7 +23,7 @@ use Rattle.model.specs.Book.{Place, second_of, Held, Book, entries_of, units, to
 use Rattle.model.specs.Register.{Register}
 use Rattle.model.specs.Judge.{Ask, bucket_of, judge, judge_batch, Taken, take_room, take_judged, take, take_batch}
 use Rattle.model.specs.Words.{State, state_form}
-use Rattle.model.specs.Calls.{Manner, judged, judged_batch, taken, taken_batch, Asking, Ticket, On, register_at, ask_of, after_judged, after_taken, asked, done_on}
+use Rattle.model.specs.Calls.{Asking, Ticket, On, register_at, ask_of, after_judged, after_taken, asked, done_on}
 use Rattle.model.specs.Calls.{step, is_open, held_in, refused}
 use Rattle.model.specs.TwiceLimit.{class_units, class_limit, Bounded, who_asks, NeverAboveTwice}
 use Rattle.model.proofs.Choice.{swap_same}
@@ -97,10 +99,10 @@ module _ (s : Settings) (r : ℕ) (a : Asking) (x : State) (ok : (state_form s).
   asked_bounded : (m : Manner) → Bounded (who_asks a) (units s.shares (places_of class_in x.book))
       (units s.shares (places_of class_in (asked s r m (ask_of a) x).state.book)) (together x.book.limits class_in)
   unfolding asked after_judged after_taken
-  asked_bounded judged = unraised (who_asks a) _ _
-  asked_bounded judged_batch = unraised (who_asks a) _ _
-  asked_bounded taken = take_bounded (usable_at s r) s.shares (register_at r x) x.book (ask_of a) (book_in s x ok)
-  asked_bounded taken_batch =
+  asked_bounded Judged = unraised (who_asks a) _ _
+  asked_bounded JudgedBatch = unraised (who_asks a) _ _
+  asked_bounded TakenManner = take_bounded (usable_at s r) s.shares (register_at r x) x.book (ask_of a) (book_in s x ok)
+  asked_bounded TakenBatch =
       take_batch_bounded (usable_at s r) s.shares (register_at r x) x.book (ask_of a) (book_in s x ok)
 
 -- ---- and on any words

@@ -9,6 +9,8 @@ use lib.ListN.{drop}
 use lib.Seq.{set-get_or}
 use borrow.Author.Tests.{eqb-true}
 use Rattle.model.specs.Answer.{Said, Begun, Already}
+use Rattle.model.specs.declared.Manner.{Manner}
+use Rattle.model.specs.declared.Manner.TheVariants.{Judged, JudgedBatch, Taken as TakenManner, TakenBatch}
 use Rattle.model.specs.declared.Room.{Room}
 use Rattle.model.specs.declared.Room.TheVariants.{At, Collides, Full as NoSlots}
 use Rattle.model.specs.declared.Settings.{Settings}
@@ -24,7 +26,7 @@ use Rattle.model.specs.Generation.{as_read}
 use Rattle.model.specs.Register.{Register, holds, any_class, begin}
 use Rattle.model.specs.Judge.{Ask, bucket_of, window_for, in_window, unjudged, verdict, judge, ahead_for, judge_batch, Taken, take_room, take_share, take_judged, take, take_batch}
 use Rattle.model.specs.Words.{State, state_form}
-use Rattle.model.specs.Calls.{Manner, judged, judged_batch, taken, taken_batch, Ticket, Begin, Call, On, no_register, register_at, with_register}
+use Rattle.model.specs.Calls.{Ticket, Begin, Call, On, no_register, register_at, with_register}
 use Rattle.model.specs.Calls.{ask_of, after_judged, after_taken, asked, done_on, step, only_reads, is_open, held_in, refused, after}
 use Rattle.model.specs.ReadersLeave.{ReadersLeave}
 use Rattle.model.specs.UnjudgedLeaves.{UnjudgedLeaves}
@@ -105,20 +107,20 @@ put_same r t =
 module _ (s : Settings) (r : ℕ) (a : Ask) (t : State) where
   asked_unjudged : (m : Manner) → (asked s r m a t).answer ≡ Said Unjudged → unjudged (register_at r t) a ≡ true
   unfolding asked after_judged after_taken judge_batch take take_batch
-  asked_unjudged judged e = judge_unjudged (usable_at s r) (register_at r t) a (said_unjudged _ e)
-  asked_unjudged judged_batch e = judge_unjudged (usable_at s r) (register_at r t) a (ahead_unjudged _ _ (said_unjudged _ e))
-  asked_unjudged taken e =
+  asked_unjudged Judged e = judge_unjudged (usable_at s r) (register_at r t) a (said_unjudged _ e)
+  asked_unjudged JudgedBatch e = judge_unjudged (usable_at s r) (register_at r t) a (ahead_unjudged _ _ (said_unjudged _ e))
+  asked_unjudged TakenManner e =
       judge_unjudged (usable_at s r) (register_at r t) a (rest_unjudged (usable_at s r) s.shares a t.book _ _ (said_unjudged _ e))
-  asked_unjudged taken_batch e =
+  asked_unjudged TakenBatch e =
       judge_unjudged (usable_at s r) (register_at r t) a
       (ahead_unjudged _ _ (rest_unjudged (usable_at s r) s.shares a t.book _ _ (said_unjudged _ e)))
 
   asked_leaves : (m : Manner) → unjudged (register_at r t) a ≡ true → (asked s r m a t).state ≡ t
   unfolding asked after_judged after_taken judge ahead_for judge_batch take_judged take take_batch
-  asked_leaves judged e = rw e (put_same r t)
-  asked_leaves judged_batch e = rw e (put_same r t)
-  asked_leaves taken e = rw e (put_same r t)
-  asked_leaves taken_batch e = rw e (put_same r t)
+  asked_leaves Judged e = rw e (put_same r t)
+  asked_leaves JudgedBatch e = rw e (put_same r t)
+  asked_leaves TakenManner e = rw e (put_same r t)
+  asked_leaves TakenBatch e = rw e (put_same r t)
 
 -- an answer that is none of the refusals comes of a call that goes through
 pub unjudged_leaves : UnjudgedLeaves

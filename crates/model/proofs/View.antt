@@ -3,7 +3,7 @@ use Prim.Native.Nat.{ℕ, zero, suc, ◌+◌, ◌-◌, ◌≤◌}
 use native.Mathlib.Omega.{arith}
 use mathlib.Core.Path.{◌≡◌, refl, ◌∙◌, ap}
 use mathlib.Core.Bool.{true, cond, ◌&&◌}
-use mathlib.Core.Option.{none, some}
+use Rattle.std.specs.Prelude.{Some, None}
 use mathlib.Core.List.{List, [], ◌∷◌, ◌++◌, append_assoc}
 use lib.ListN.{length, get_or, drop, replicate, length-append}
 use lib.Seq.{take_at, drop_at, drop-append-add}
@@ -128,14 +128,14 @@ module _ (s : Settings) where
           let h = sound_holds ws long t in
           ap kept_settings h.words ∙ kept_of_words (held_in s ws) h.ok (drop (words_needed s) ws) trimmed
 
-      pub view_sound : (ws : List ℕ) → words_needed s ≤ length ws → sound s ws ≡ true → view ws ≡ some (held_in s ws)
+      pub view_sound : (ws : List ℕ) → words_needed s ≤ length ws → sound s ws ≡ true → view ws ≡ Some (held_in s ws)
       unfolding view
       view_sound ws long t = rw (kept_are ws long t, fit, le-leb _ _ long, t)
 
-      pub view_written : (x : State) (rest : List ℕ) → (state_form s).Ok x → view ((state_form s).enc x ++ rest) ≡ some x
+      pub view_written : (x : State) (rest : List ℕ) → (state_form s).Ok x → view ((state_form s).enc x ++ rest) ≡ Some x
       view_written x rest ok =
           let w = written x rest ok in
-          view_sound ((state_form s).enc x ++ rest) w.long w.sound ∙ ap some w.holds
+          view_sound ((state_form s).enc x ++ rest) w.long w.sound ∙ ap Some w.holds
 
 -- ---- what `view` reads is read under the settings that the words keep
 pub record Read (ws : List ℕ) (t : State) : Type 0 where
@@ -144,16 +144,16 @@ pub record Read (ws : List ℕ) (t : State) : Type 0 where
   pub sound : sound (kept_settings ws) ws ≡ true
   pub holds : held_in (kept_settings ws) ws ≡ t
 
-pub view_read : (ws : List ℕ) (t : State) → view ws ≡ some t → Read ws t
+pub view_read : (ws : List ℕ) (t : State) → view ws ≡ Some t → Read ws t
 unfolding view
 view_read ws t e =
     let k = kept_settings ws in
     by_test (settings_fit k && (leb (words_needed k) (length ws) && sound k ws))
     (λ p.
     let q = each_true (settings_fit k) (leb (words_needed k) (length ws) ∷ sound k ws ∷ []) p in
-    let h : some (held_in k ws) ≡ some t = rw p at e in
+    let h : Some (held_in k ws) ≡ Some t = rw p at e in
     record { fit = q.0; long = leb-true (words_needed k) (length ws) q.1.0; sound = q.1.1; holds = (cc) })
-    (λ p. let h : none ≡ some t = rw p at e in no (cc))
+    (λ p. let h : None ≡ Some t = rw p at e in no (cc))
 
 -- what `view` reads is a well-formed state, of which the words are the encoding, free words included
 pub record Seen (ws : List ℕ) (x : State) : Type 0 where
@@ -161,7 +161,7 @@ pub record Seen (ws : List ℕ) (x : State) : Type 0 where
   pub ok : (state_form (kept_settings ws)).Ok x
   pub words : ws ≡ (state_form (kept_settings ws)).enc x ++ drop (words_needed (kept_settings ws)) ws
 
-pub view_back : (ws : List ℕ) (x : State) → view ws ≡ some x → Seen ws x
+pub view_back : (ws : List ℕ) (x : State) → view ws ≡ Some x → Seen ws x
 view_back ws x e =
     let s = kept_settings ws in
     let r = view_read ws x e in

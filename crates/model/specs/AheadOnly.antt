@@ -2,18 +2,19 @@
 -- On the same words with the same arguments: judge_batch answers Ahead exactly when judge answers Late and the front is past.
 -- Otherwise it answers as judge does, and it always leaves the words that judge leaves.
 use Rattle.std.specs.Prelude.{ℕ, ◌+◌, ◌<◌, ◌≡◌, List}
+use Rattle.model.specs.declared.Manner.TheVariants.{Judged, JudgedBatch}
 use Rattle.model.specs.declared.Verdict.TheVariants.{Late, Ahead}
 use Rattle.model.specs.Answer.{Said}
 use Rattle.model.specs.Settings.{settings_of, usable_at}
 use Rattle.model.specs.Class.{deliverer_of}
 use Rattle.model.specs.Judge.{window_for}
-use Rattle.model.specs.Calls.{judged, judged_batch, Asking, Ticket, Call, On, reply, after}
+use Rattle.model.specs.Calls.{Asking, Ticket, Call, On, reply, after}
 
 abbrev pub judge_call : ℕ → Asking → Call
-judge_call r a = On r (Ticket judged a)
+judge_call r a = On r (Ticket Judged a)
 
 abbrev pub batch_call : ℕ → Asking → Call
-batch_call r a = On r (Ticket judged_batch a)
+batch_call r a = On r (Ticket JudgedBatch a)
 
 -- which window is whose: specs/Windows
 abbrev pub FrontPast : List ℕ → ℕ → Asking → Type 0

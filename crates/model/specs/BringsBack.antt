@@ -7,8 +7,7 @@
 -- any settings. The book has enough room as it then is. Then a restore of what the dump wrote, with any bytes after it, answers Whole
 -- with the dump's length, and the register holds what the dumped one held: for each class the same fingerprints, buckets and newest
 -- stamps, and the floor unless that is 2^64 − 1. Nothing is to be supplied but words, bytes, settings and calls.
-use Rattle.std.specs.Prelude.{ℕ, ◌*◌, ◌<◌, ◌≡◌, true, List, ◌++◌, length, get_or}
-use Rattle.std.proofs.Math.Option.{some}
+use Rattle.std.specs.Prelude.{ℕ, ◌*◌, ◌<◌, ◌≡◌, true, Some, List, ◌++◌, length, get_or}
 use Rattle.model.specs.Answer.{Dumped, Whole}
 use Rattle.model.specs.declared.Usable.{Usable}
 use Rattle.model.specs.Settings.{settings_of, usable_at}
@@ -64,8 +63,8 @@ pub record BringsBack (d : ADump) (st now : List ℕ) (q : ℕ) (more : List ℕ
   pub long : length (bytes_of d) ≡ d.told
   pub answer : reply st now (On q (Restore (bytes_of d ++ more))) ≡ Whole d.told
   -- the words were sound when the register was dumped, and those that are left are sound
-  pub then_sound : view d.words ≡ some (holding d.words)
-  pub now_sound : view (after st now (On q (Restore (bytes_of d ++ more)))) ≡ some (holding (after st now (On q (Restore (bytes_of d ++ more)))))
+  pub then_sound : view d.words ≡ Some (holding d.words)
+  pub now_sound : view (after st now (On q (Restore (bytes_of d ++ more)))) ≡ Some (holding (after st now (On q (Restore (bytes_of d ++ more)))))
   pub brought : BroughtBack (dumped d) (register_at q (holding (after st now (On q (Restore (bytes_of d ++ more))))))
 
 abbrev pub DumpBringsBack : Type 0

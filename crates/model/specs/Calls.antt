@@ -1,9 +1,10 @@
 -- "Who causes which reply": every call as a value, the refusals in their order, the reply, and the words and bytes after it.
-use Rattle.std.specs.Prelude.{ℕ, zero, suc, ◌+◌, ◌*◌, min, Bool, true, false, cond, not, ◌&&◌, ◌||◌, List, [], ◌∷◌, ◌++◌, leb, ltb, eqb, length, get_or, set, take, drop, replicate}
-use Rattle.std.proofs.Math.Option.{Option, none, some}
+use Rattle.std.specs.Prelude.{ℕ, zero, suc, ◌+◌, ◌*◌, min, Bool, true, false, cond, not, ◌&&◌, ◌||◌, Option, Some, None, List, [], ◌∷◌, ◌++◌, leb, ltb, eqb, length, get_or, set, take, drop, replicate}
 use Rattle.model.specs.Answer.{Answer}
 use Rattle.model.specs.Answer.{Refused, Done, Said, Yes, No, Begun, Already, Dumped, Viewed, Whole, Partly, NoFloor, FloorAt, SweptTo, Entries, Totals}
 use Rattle.model.specs.Answer.{Because, NoStamp, StampAt}
+use Rattle.model.specs.declared.Manner.{Manner}
+use Rattle.model.specs.declared.Manner.TheVariants.{Judged, JudgedBatch, Taken as TakenManner, TakenBatch}
 use Rattle.model.specs.declared.Settings.{Settings}
 use Rattle.model.specs.Numbers.{compute_numbers}
 use Rattle.model.specs.Settings.{settings_width, settings_of, limits_width, limits_of, limits_fit, settings_fit, usable_at, words_needed, compute_settings}
@@ -22,10 +23,6 @@ use Rattle.model.specs.Stamp.{stamp_for, compute_stamp}
 use Rattle.model.specs.Words.{State, front_spare, unused_width, state_form}
 
 -- ---- calls, with every number as the host passes it
--- how a ticket is asked about
-pub data Manner : Type 0 where
-  judged judged_batch taken taken_batch : Manner
-
 pub record Asking : Type 0 where
   pub fp : ℕ
   pub stamp : ℕ
@@ -83,7 +80,7 @@ pub record Step : Type 0 where
   pub state : State
 
 abbrev pub no_register : Register
-no_register = record { swept = 0; floor = none; pending = false; spare = []; rings = three [] }
+no_register = record { swept = 0; floor = None; pending = false; spare = []; rings = three [] }
 
 abbrev pub register_at : ℕ → State → Register
 register_at r t = get_or t.registers r no_register
@@ -118,10 +115,10 @@ unfoldable pub after_taken : ℕ → State → Taken → Step
 after_taken r t k = record { answer = Said k.says; state = with_book k.book (with_register r k.register t) }
 
 unfoldable pub asked : Settings → ℕ → Manner → Ask → State → Step
-asked s r judged a t = after_judged r t (judge (usable_at s r) (register_at r t) a)
-asked s r judged_batch a t = after_judged r t (judge_batch (usable_at s r) (register_at r t) a)
-asked s r taken a t = after_taken r t (take_ticket (usable_at s r) s.shares (register_at r t) t.book a)
-asked s r taken_batch a t = after_taken r t (take_batch (usable_at s r) s.shares (register_at r t) t.book a)
+asked s r Judged a t = after_judged r t (judge (usable_at s r) (register_at r t) a)
+asked s r JudgedBatch a t = after_judged r t (judge_batch (usable_at s r) (register_at r t) a)
+asked s r TakenManner a t = after_taken r t (take_ticket (usable_at s r) s.shares (register_at r t) t.book a)
+asked s r TakenBatch a t = after_taken r t (take_batch (usable_at s r) s.shares (register_at r t) t.book a)
 
 -- "returns bytes read and Whole or Partly"
 abbrev pub bytes_read : Dump → ℕ
@@ -135,30 +132,30 @@ after_restored r t d w = record {
 
 -- a dump cut short is refused before this (7)
 unfoldable pub restored : Settings → ℕ → State → Option Dump → Step
-restored s r t none = record { answer = Done; state = t }
-restored s r t (some d) = after_restored r t d (restore (usable_at s r) s.shares d (register_at r t) t.book)
+restored s r t None = record { answer = Done; state = t }
+restored s r t (Some d) = after_restored r t d (restore (usable_at s r) s.shares d (register_at r t) t.book)
 
 abbrev pub proven_of : ℕ → ℕ → Option ℕ
-proven_of flag floor = cond (flag_of flag) (some floor) none
+proven_of flag floor = cond (flag_of flag) (Some floor) None
 
 unfoldable pub resumed : Settings → ℕ → State → Option ℕ → Option Dump → Step
-resumed s r t proven none = record { answer = Done; state = t }
-resumed s r t proven (some d) = after_restored r t d (resume (usable_at s r) s.shares d proven (register_at r t) t.book)
+resumed s r t proven None = record { answer = Done; state = t }
+resumed s r t proven (Some d) = after_restored r t d (resume (usable_at s r) s.shares d proven (register_at r t) t.book)
 
 abbrev pub yes_no : Bool → Answer
 yes_no true = Yes
 yes_no false = No
 
 abbrev pub floor_answer : Option ℕ → Answer
-floor_answer none = NoFloor
-floor_answer (some f) = FloorAt f
+floor_answer None = NoFloor
+floor_answer (Some f) = FloorAt f
 
 abbrev pub sought : Settings → ℕ → Seeking → State → Option ℕ
 sought s r q t = stamp_for (usable_at s r) s.shares (register_at r t) t.book (ask_of (asking_at 0 q)) (verdict_of q.wanted)
 
 abbrev pub stamp_answer : Option ℕ → Answer
-stamp_answer none = NoStamp
-stamp_answer (some x) = StampAt x
+stamp_answer None = NoStamp
+stamp_answer (Some x) = StampAt x
 
 -- "the least of all published sweeps and the reading"
 unfoldable pub least_published : Settings → ℕ → List Register → ℕ → ℕ
@@ -201,8 +198,8 @@ dump_refusals out reg = refusal 6 reg.pending ∷ refusal 5 (ltb (length out) (l
 
 -- 7: "dump cut short"
 unfoldable pub is_cut : Option Dump → Bool
-is_cut none = true
-is_cut (some d) = false
+is_cut None = true
+is_cut (Some d) = false
 
 abbrev pub restore_refusals : List ℕ → List Refusal
 restore_refusals bytes = refusal 7 (is_cut (read_dump bytes)) ∷ []
@@ -233,10 +230,10 @@ pub data Kind : Type 0 where
   Other : Kind
 
 unfoldable pub manner_sort : Manner → Asking → Sort
-manner_sort judged a = Asks a
-manner_sort judged_batch a = Asks a
-manner_sort taken a = Takes a
-manner_sort taken_batch a = Takes a
+manner_sort Judged a = Asks a
+manner_sort JudgedBatch a = Asks a
+manner_sort TakenManner a = Takes a
+manner_sort TakenBatch a = Takes a
 
 unfoldable pub opens : Kind → Bool
 opens (Opens limits starts) = true
@@ -277,7 +274,7 @@ shows fits own output writes says = record {
   output = output;
   writes = writes;
   reads = true;
-  reading = none;
+  reading = None;
   sort = Plain;
 }
 
@@ -293,7 +290,7 @@ alters fits own sort does = record {
   output = [];
   writes = λ reg. [];
   reads = false;
-  reading = none;
+  reading = None;
   sort = sort;
 }
 
@@ -312,7 +309,7 @@ sweeps_by ms a = record {
 
 -- with the flag off a ticket's reading is not used
 abbrev pub reading_of_ask : Ask → Option ℕ
-reading_of_ask a = cond a.judging (some a.ms) none
+reading_of_ask a = cond a.judging (Some a.ms) None
 
 unfoldable pub act : Deed → Act
 act (Ticket m a) =
@@ -323,7 +320,7 @@ act (Begin number) =
     alters true no_refusals Plain
     (λ s r t. record { answer = cond (register_at r t).pending Begun Already; state = with_register r (begin number (register_at r t)) t })
 act (Sweep ms) =
-    sweeps_by (some ms)
+    sweeps_by (Some ms)
     (alters true no_refusals Plain (λ s r t. record { answer = Done; state = with_register r (sweep (usable_at s r) ms (register_at r t)) t }))
 act (DumpTo out) = shows true (dump_refusals out) out dump_bytes (λ s r t. Dumped (length (dump_bytes (register_at r t))))
 act (Restore bytes) = alters true (restore_refusals bytes) Restores (λ s r t. restored s r t (read_dump bytes))
@@ -369,7 +366,7 @@ shows_all fits own output writes says = record {
   output = output;
   writes = writes;
   reads = true;
-  reading = none;
+  reading = None;
   kind = Other;
 }
 
@@ -385,7 +382,7 @@ makes fits kind leaves = record {
   output = [];
   writes = λ t. [];
   reads = false;
-  reading = none;
+  reading = None;
   kind = kind;
 }
 

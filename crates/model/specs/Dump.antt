@@ -1,6 +1,5 @@
 -- "Dump": a register's floor and generations as bytes, restore and resume.
-use Rattle.std.specs.Prelude.{ℕ, zero, suc, ◌+◌, ◌-◌, ◌*◌, ◌/◌, ◌%◌, max, Bool, true, false, cond, not, List, [], ◌∷◌, ◌++◌, leb, eqb, length, take, drop, if◌then◌else◌}
-use Rattle.std.proofs.Math.Option.{Option, none, some}
+use Rattle.std.specs.Prelude.{ℕ, zero, suc, ◌+◌, ◌-◌, ◌*◌, ◌/◌, ◌%◌, max, Bool, true, false, cond, not, Option, Some, None, List, [], ◌∷◌, ◌++◌, leb, eqb, length, take, drop, if◌then◌else◌}
 use Rattle.model.specs.declared.Class.{Class}
 use Rattle.model.specs.declared.Class.TheVariants.{Feeders, Peers, Own}
 use Rattle.model.specs.declared.Deliverer.{Deliverer}
@@ -41,8 +40,8 @@ words_of bs = words_in (length bs / 8) bs
 -- ---- writing
 -- "floor (0 none, else floor + 1, capped)"
 unfoldable pub dumped_floor : Option ℕ → ℕ
-dumped_floor none = 0
-dumped_floor (some f) = cap64 (suc f)
+dumped_floor None = 0
+dumped_floor (Some f) = cap64 (suc f)
 
 -- "fingerprints by slot"
 unfoldable pub fingerprints : List ℕ → List ℕ
@@ -92,38 +91,38 @@ pub record Cut : Type 0 where
   pub rest : List ℕ
 
 unfoldable pub found_first : Dumped → Option Cut → Option Cut
-found_first d none = none
-found_first d (some c) = some (record { found = d ∷ c.found; rest = c.rest })
+found_first d None = None
+found_first d (Some c) = Some (record { found = d ∷ c.found; rest = c.rest })
 
 -- n generations; none where the words are cut short. Each has three words at least, so the words bound how many there are
 unfoldable pub read_generations : ℕ → ℕ → List ℕ → Option Cut
-read_generations zero n ws = cond (eqb n 0) (some (record { found = []; rest = ws })) none
-read_generations (suc most) n [] = cond (eqb n 0) (some (record { found = []; rest = [] })) none
-read_generations (suc most) n (b ∷ []) = cond (eqb n 0) (some (record { found = []; rest = b ∷ [] })) none
-read_generations (suc most) n (b ∷ t ∷ []) = cond (eqb n 0) (some (record { found = []; rest = b ∷ t ∷ [] })) none
+read_generations zero n ws = cond (eqb n 0) (Some (record { found = []; rest = ws })) None
+read_generations (suc most) n [] = cond (eqb n 0) (Some (record { found = []; rest = [] })) None
+read_generations (suc most) n (b ∷ []) = cond (eqb n 0) (Some (record { found = []; rest = b ∷ [] })) None
+read_generations (suc most) n (b ∷ t ∷ []) = cond (eqb n 0) (Some (record { found = []; rest = b ∷ t ∷ [] })) None
 read_generations (suc most) n (b ∷ t ∷ l ∷ ws) =
     let more = found_first (record { bucket = b; newest = t; prints = take l ws }) (read_generations most (n - 1) (drop l ws)) in
-    cond (eqb n 0) (some (record { found = []; rest = b ∷ t ∷ l ∷ ws })) (cond (leb l (length ws)) more none)
+    cond (eqb n 0) (Some (record { found = []; rest = b ∷ t ∷ l ∷ ws })) (cond (leb l (length ws)) more None)
 
 unfoldable pub read_class : List ℕ → Option Cut
-read_class [] = none
+read_class [] = None
 read_class (n ∷ ws) = read_generations (length ws) n ws
 
 unfoldable pub read_own : ℕ → ℕ → List Dumped → List Dumped → Option Cut → Option Dump
-read_own f all a b none = none
-read_own f all a b (some c) =
-    some (record { floor = f; classes = record { of_feeders = a; of_peers = b; of_own = c.found }; words = all - length c.rest })
+read_own f all a b None = None
+read_own f all a b (Some c) =
+    Some (record { floor = f; classes = record { of_feeders = a; of_peers = b; of_own = c.found }; words = all - length c.rest })
 
 unfoldable pub read_peers : ℕ → ℕ → List Dumped → Option Cut → Option Dump
-read_peers f all a none = none
-read_peers f all a (some c) = read_own f all a c.found (read_class c.rest)
+read_peers f all a None = None
+read_peers f all a (Some c) = read_own f all a c.found (read_class c.rest)
 
 unfoldable pub read_feeders : ℕ → ℕ → Option Cut → Option Dump
-read_feeders f all none = none
-read_feeders f all (some c) = read_peers f all c.found (read_class c.rest)
+read_feeders f all None = None
+read_feeders f all (Some c) = read_peers f all c.found (read_class c.rest)
 
 unfoldable pub read_words : List ℕ → Option Dump
-read_words [] = none
+read_words [] = None
 read_words (f ∷ ws) = read_feeders f (suc (length ws)) (read_class ws)
 
 -- none: a dump cut short
@@ -220,12 +219,12 @@ restore u b d reg book =
 
 -- "`resume` forgets the floor first, raises it to a proven one after"
 unfoldable pub raised_to_proven : Option ℕ → Register → Register
-raised_to_proven none reg = reg
-raised_to_proven (some p) reg = raised p reg
+raised_to_proven None reg = reg
+raised_to_proven (Some p) reg = raised p reg
 
 unfoldable pub resume : Usable → Shares → Dump → Option ℕ → Register → Book → Restoring
 resume u b d proven reg book =
-    let r = restore u b d (with_floor none reg) book in
+    let r = restore u b d (with_floor None reg) book in
     record { register = raised_to_proven proven r.register; book = r.book; whole = r.whole }
 
 -- the rules of this file, for a theorem that computes

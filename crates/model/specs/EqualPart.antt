@@ -9,9 +9,9 @@
 --
 -- The conditions that are meant: the limits are those of the opening; a Feeder or a Peer, one of at most three parties, asks; the book
 -- is open; its entries are below its share, and its units afterwards within the equal part; nothing is too full for the ticket.
-use Rattle.std.specs.Prelude.{ℕ, ◌+◌, ◌/◌, ◌≤◌, ◌≡◌, Bool, true, false, cond, not, ◌&&◌, List, [], ◌∷◌, ◌++◌, eqb}
-use Rattle.std.proofs.Math.Option.{Option, none, some}
+use Rattle.std.specs.Prelude.{ℕ, ◌+◌, ◌/◌, ◌≤◌, ◌≡◌, Bool, true, false, cond, not, ◌&&◌, Option, Some, None, List, [], ◌∷◌, ◌++◌, eqb}
 use Rattle.model.specs.declared.Class.{Class}
+use Rattle.model.specs.declared.Manner.TheVariants.{Judged, Taken, TakenBatch}
 use Rattle.model.specs.declared.Verdict.TheVariants.{New, Late}
 use Rattle.model.specs.Answer.{Answer}
 use Rattle.model.specs.Answer.{Said}
@@ -26,7 +26,7 @@ use Rattle.model.specs.Book.{Place, Book, entries, place_units, places_of, toget
 use Rattle.model.specs.Register.{Register, generation_at, sweep}
 use Rattle.model.specs.Judge.{Ask, bucket_of}
 use Rattle.model.specs.Words.{State}
-use Rattle.model.specs.Calls.{Asking, judged, taken, taken_batch, Ticket, Call, Open, On, Kind, Opens, OnOne, Sets, Other, kind, ask_of, register_at, opened, step, reply, after}
+use Rattle.model.specs.Calls.{Asking, Ticket, Call, Open, On, Kind, Opens, OnOne, Sets, Other, kind, ask_of, register_at, opened, step, reply, after}
 use Rattle.model.specs.View.{view, Given, answered, left_by, words_after}
 use Rattle.model.specs.Codes.{went_through}
 
@@ -55,15 +55,15 @@ limits_stay call l = kind_stays (kind call) l
 
 -- one more call went through
 abbrev pub and_then : Call → Option Since → Option Since
-and_then call none = none
-and_then call (some x) = some (record {
+and_then call None = None
+and_then call (Some x) = Some (record {
   settings = x.settings;
   state = (step x.settings call x.state).state;
   unchanged = x.unchanged && limits_stay call x.state.book.limits;
 })
 
 unfoldable pub gone_by : Settings → Kind → Call → Option Since → Option Since
-gone_by s (Opens limits starts) call k = some (record { settings = s; state = opened s limits starts; unchanged = true })
+gone_by s (Opens limits starts) call k = Some (record { settings = s; state = opened s limits starts; unchanged = true })
 gone_by s (OnOne r d) call k = and_then call k
 gone_by s (Sets limits) call k = and_then call k
 gone_by s Other call k = and_then call k
@@ -112,26 +112,26 @@ answer_due u reg a = Said (cond (taken_by_another u reg a) Late New)
 
 -- on words, with the settings, the register number and the ticket that the call brings
 pub record Gets (x : Since) (ws st : List ℕ) (r : ℕ) (a : Asking) : Type 0 where
-  pub from_take : reply st ws (On r (Ticket taken a)) ≡ answer_due (usable_at x.settings r) (register_at r x.state) (ask_of a)
-  pub from_take_batch : reply st ws (On r (Ticket taken_batch a)) ≡ answer_due (usable_at x.settings r) (register_at r x.state) (ask_of a)
+  pub from_take : reply st ws (On r (Ticket Taken a)) ≡ answer_due (usable_at x.settings r) (register_at r x.state) (ask_of a)
+  pub from_take_batch : reply st ws (On r (Ticket TakenBatch a)) ≡ answer_due (usable_at x.settings r) (register_at r x.state) (ask_of a)
 
 abbrev pub Promised : Since → List ℕ → Type 0
 Promised x ws =
-    x.unchanged ≡ true → (st : List ℕ) (r : ℕ) (a : Asking) → reply st ws (On r (Ticket judged a)) ≡ Said New
+    x.unchanged ≡ true → (st : List ℕ) (r : ℕ) (a : Asking) → reply st ws (On r (Ticket Judged a)) ≡ Said New
     → Due (usable_at x.settings r) x.settings.shares (register_at r x.state) x.state.book (ask_of a) → Gets x ws st r a
 
 abbrev pub EqualPart : List ℕ → List Given → Type 0
-EqualPart start calls = (x : Since) → since_opening none start calls ≡ some x → Promised x (words_after start calls)
+EqualPart start calls = (x : Since) → since_opening None start calls ≡ Some x → Promised x (words_after start calls)
 
 -- ---- beside it
 -- the words hold what the rules yield since the opening; so right after an opening that went through they hold what it opened
 abbrev pub WordsHold : List ℕ → List Given → Type 0
-WordsHold start calls = (x : Since) → since_opening none start calls ≡ some x → view (words_after start calls) ≡ some x.state
+WordsHold start calls = (x : Since) → since_opening None start calls ≡ Some x → view (words_after start calls) ≡ Some x.state
 
 abbrev pub OpeningHolds : Type 0
 OpeningHolds =
     (st ws limits starts : List ℕ) → went_through (reply st ws (Open limits starts)) ≡ true
-    → view (after st ws (Open limits starts)) ≡ some (opened (settings_of st) limits starts)
+    → view (after st ws (Open limits starts)) ≡ Some (opened (settings_of st) limits starts)
 
 -- while the limits stay, any one holder of a class has at most T units, and any two have at most T and half of it, whatever is taken,
 -- restored, resumed and expired
@@ -145,7 +145,7 @@ pub record HoldersKept (b : Shares) (limit : ℕ) (ps : List Place) : Type 0 whe
 
 abbrev pub SharesKept : List ℕ → List Given → Type 0
 SharesKept start calls =
-    (x : Since) → since_opening none start calls ≡ some x → x.unchanged ≡ true
+    (x : Since) → since_opening None start calls ≡ Some x → x.unchanged ≡ true
     → (c : Class) → HoldersKept x.settings.shares (together x.state.book.limits c) (places_of c x.state.book)
 
 -- the rules of this file, for a theorem that computes

@@ -1,7 +1,6 @@
 -- Equal part (specs/EqualPart) among events (specs/Once): calls that come later say which kind of event they are, and the promise holds
 -- among them.
-use Rattle.std.specs.Prelude.{ℕ, ◌≡◌, List, [], ◌∷◌}
-use Rattle.std.proofs.Math.Option.{Option, none, some}
+use Rattle.std.specs.Prelude.{ℕ, ◌≡◌, Option, Some, None, List, [], ◌∷◌}
 use Rattle.model.specs.View.{kept_settings, view, words_after}
 use Rattle.model.specs.Once.{Event, Calls, Replaces, Aside, left_by_event}
 use Rattle.model.specs.EqualPart.{Since, since_opening, Promised}
@@ -21,7 +20,7 @@ HeldAside ws (Aside after ∷ es) = LeavesHeld ws after × HeldAside after es
 unfoldable pub since_among : Option Since → List ℕ → List Event → Option Since
 since_among k ws [] = k
 since_among k ws (Calls gs ∷ es) = since_among (since_opening k ws gs) (words_after ws gs) es
-since_among k ws (Replaces after ∷ es) = since_among none after es
+since_among k ws (Replaces after ∷ es) = since_among None after es
 since_among k ws (Aside after ∷ es) = since_among k after es
 
 unfoldable pub words_among : List ℕ → List Event → List ℕ
@@ -30,4 +29,4 @@ words_among ws (e ∷ es) = words_among (left_by_event ws e) es
 
 abbrev pub EqualPartAmong : List ℕ → List Event → Type 0
 EqualPartAmong start events =
-    HeldAside start events → (x : Since) → since_among none start events ≡ some x → Promised x (words_among start events)
+    HeldAside start events → (x : Since) → since_among None start events ≡ Some x → Promised x (words_among start events)

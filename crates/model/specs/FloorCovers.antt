@@ -1,8 +1,7 @@
 -- "The floor shall now rise to the larger of the dump's newest and the dropped generation's newest" (request Q-3).
 -- A generation of a dump that fails, wherever it stands among those of its class: when all are restored the floor is at least its newest
 -- stamp, and at least the newest stamp of the generation that was dropped, as it was just before.
-use Rattle.std.specs.Prelude.{ℕ, ◌≡◌, false, List, ◌∷◌, ◌++◌}
-use Rattle.std.proofs.Math.Option.{Option}
+use Rattle.std.specs.Prelude.{ℕ, ◌≡◌, false, Option, List, ◌∷◌, ◌++◌}
 use Rattle.model.specs.declared.Class.{Class}
 use Rattle.model.specs.declared.Usable.{Usable}
 use Rattle.model.specs.declared.Shares.{Shares}

@@ -1,6 +1,5 @@
 pub mod Answer
 pub mod Listed
-pub mod Optional
 pub mod Numbers
 pub mod Widths
 pub mod Settings

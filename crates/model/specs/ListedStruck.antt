@@ -5,8 +5,7 @@
 -- end this, and nothing else: an opening that went through, and a resume on that register that went through. The words before the
 -- restore are any words, and the bytes any that it does not refuse: they need not come from a dump. A generation that lists nothing
 -- says nothing.
-use Rattle.std.specs.Prelude.{ℕ, ◌≤◌, ◌≡◌, true, false, List}
-use Rattle.std.proofs.Math.Option.{some}
+use Rattle.std.specs.Prelude.{ℕ, ◌≤◌, ◌≡◌, true, false, Some, List}
 use Rattle.model.specs.declared.Class.{Class}
 use Rattle.model.specs.declared.Usable.{Usable}
 use Rattle.model.specs.declared.Verdict.TheVariants.{New}
@@ -40,7 +39,7 @@ restored_words st ws r bytes = after st ws (On r (Restore bytes))
 -- the register, `later` is a judge, a take or one of their batch forms that asks about the ticket: then it does not answer New
 abbrev pub ListedStruck : Type 0
 ListedStruck =
-    (st ws bytes : List ℕ) (d : Dump) (t : Strike) (between : List Given) (later : Given) → read_dump bytes ≡ some d
+    (st ws bytes : List ℕ) (d : Dump) (t : Strike) (between : List Given) (later : Given) → read_dump bytes ≡ Some d
     → went_through (reply st ws (On t.register (Restore bytes))) ≡ true → Listed (usable_at (settings_of st) t.register) d t
-    → remade_among t.register (restored_words st ws t.register bytes) between ≡ false → asks_about (kind later.call) ≡ some t
+    → remade_among t.register (restored_words st ws t.register bytes) between ≡ false → asks_about (kind later.call) ≡ Some t
     → answered (words_after (restored_words st ws t.register bytes) between) later ≡ Said New → ⊥

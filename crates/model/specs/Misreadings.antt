@@ -1,6 +1,5 @@
 -- "Misreadings to exclude", each as what holds instead; proofs/Misreadings has the proofs.
-use Rattle.std.specs.Prelude.{ℕ, ◌<◌, ◌≤◌, ◌≡◌, true, List, [], ◌∷◌, length}
-use Rattle.std.proofs.Math.Option.{Option, some}
+use Rattle.std.specs.Prelude.{ℕ, ◌<◌, ◌≤◌, ◌≡◌, true, Option, Some, List, [], ◌∷◌, length}
 use Rattle.model.specs.declared.Class.{Class}
 use Rattle.model.specs.declared.Settings.{Settings}
 use Rattle.model.specs.declared.Usable.{Usable}
@@ -23,11 +22,11 @@ HeldIsDuplicate =
 -- "A clock step back undoing the floor": a sweep at any reading leaves a floor that is no lower
 pub record NoLower (old : ℕ) (floor : Option ℕ) : Type 0 where
   pub level : ℕ
-  pub there : floor ≡ some level
+  pub there : floor ≡ Some level
   pub no_lower : old ≤ level
 
 abbrev pub FloorStands : Type 0
-FloorStands = (u : Usable) (ms : ℕ) (reg : Register) (f : ℕ) → reg.floor ≡ some f → NoLower f (sweep u ms reg).floor
+FloorStands = (u : Usable) (ms : ℕ) (reg : Register) (f : ℕ) → reg.floor ≡ Some f → NoLower f (sweep u ms reg).floor
 
 -- "Dump, restore, dump giving equal bytes: slot order may differ": 3 and 7 are taken in this order, and dumped as 7, 3
 unfoldable pub dumped_first : List ℕ

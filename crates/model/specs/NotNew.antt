@@ -1,9 +1,11 @@
 -- "A take that is not New leaves the words as judge leaves them."
 -- Of any words, settings and register: a refused take is not New either, and then judge is refused too and neither alters anything.
 use Rattle.std.specs.Prelude.{ℕ, ◌≡◌, List}
+use Rattle.model.specs.declared.Manner.{Manner}
+use Rattle.model.specs.declared.Manner.TheVariants.{Judged, JudgedBatch, Taken, TakenBatch}
 use Rattle.model.specs.declared.Verdict.TheVariants.{New}
 use Rattle.model.specs.Answer.{Said}
-use Rattle.model.specs.Calls.{Manner, judged, judged_batch, taken, taken_batch, Asking, Ticket, On, reply, after}
+use Rattle.model.specs.Calls.{Asking, Ticket, On, reply, after}
 
 -- the take of one manner answers other than New: then the judge of the other leaves the same words
 abbrev pub LeavesAs : Manner → Manner → Type 0
@@ -13,4 +15,4 @@ LeavesAs take judge =
 
 -- the promise, for take and for take_batch
 abbrev pub NotNewLeavesWords : Type 0
-NotNewLeavesWords = LeavesAs taken judged × LeavesAs taken_batch judged_batch
+NotNewLeavesWords = LeavesAs Taken Judged × LeavesAs TakenBatch JudgedBatch

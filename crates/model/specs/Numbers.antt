@@ -1,6 +1,5 @@
 -- What all rules share: bounds, rounding up, the two caps, and a floor that may be absent.
-use Rattle.std.specs.Prelude.{ℕ, ◌+◌, ◌-◌, ◌/◌, min, max, Bool, false, ◌&&◌, leb}
-use Rattle.std.proofs.Math.Option.{Option, none, some}
+use Rattle.std.specs.Prelude.{ℕ, ◌+◌, ◌-◌, ◌/◌, min, max, Bool, false, ◌&&◌, leb, Option, Some, None}
 
 -- lo ≤ n ≤ hi
 abbrev pub between : ℕ → ℕ → ℕ → Bool
@@ -26,13 +25,13 @@ ceil n d = (n + (d - 1)) / d
 
 -- a floor, raised: it never falls, and one that is absent becomes the number
 unfoldable pub raise : Option ℕ → ℕ → Option ℕ
-raise none n = some n
-raise (some f) n = some (max f n)
+raise None n = Some n
+raise (Some f) n = Some (max f n)
 
 -- stamp ≤ floor
 unfoldable pub under : ℕ → Option ℕ → Bool
-under stamp none = false
-under stamp (some f) = leb stamp f
+under stamp None = false
+under stamp (Some f) = leb stamp f
 
 -- the rules of this file, for a theorem that computes
 unfoldable pub compute_numbers : ℕ

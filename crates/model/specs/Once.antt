@@ -5,8 +5,7 @@
 -- through, and a resume on that register that went through. A restore ends nothing, whether it comes out Whole or Partly or is
 -- refused. The words at the start are any words; each call brings its own settings, register, reading and bytes; calls that are
 -- refused stand in the list like the others.
-use Rattle.std.specs.Prelude.{ℕ, ◌≡◌, Bool, true, false, ◌&&◌, ◌||◌, List, [], ◌∷◌, ◌++◌, eqb}
-use Rattle.std.proofs.Math.Option.{Option, none, some}
+use Rattle.std.specs.Prelude.{ℕ, ◌≡◌, Bool, true, false, ◌&&◌, ◌||◌, Option, Some, None, List, [], ◌∷◌, ◌++◌, eqb}
 use Rattle.model.specs.declared.Verdict.TheVariants.{New}
 use Rattle.model.specs.Answer.{Answer}
 use Rattle.model.specs.Answer.{Said}
@@ -28,32 +27,32 @@ strike_of r a = record { register = r; print = as_read a.fp; stamp = a.stamp }
 
 -- ---- what a call is about, by its kind
 unfoldable pub sort_asks : ℕ → Sort → Option Strike
-sort_asks r (Asks a) = some (strike_of r a)
-sort_asks r (Takes a) = some (strike_of r a)
-sort_asks r Restores = none
-sort_asks r Resumes = none
-sort_asks r Plain = none
+sort_asks r (Asks a) = Some (strike_of r a)
+sort_asks r (Takes a) = Some (strike_of r a)
+sort_asks r Restores = None
+sort_asks r Resumes = None
+sort_asks r Plain = None
 
 unfoldable pub asks_about : Kind → Option Strike
 unfolding sort_asks
-asks_about (Opens limits starts) = none
+asks_about (Opens limits starts) = None
 asks_about (OnOne r d) = sort_asks r d
-asks_about (Sets limits) = none
-asks_about Other = none
+asks_about (Sets limits) = None
+asks_about Other = None
 
 unfoldable pub sort_takes : ℕ → Sort → Option Strike
-sort_takes r (Asks a) = none
-sort_takes r (Takes a) = some (strike_of r a)
-sort_takes r Restores = none
-sort_takes r Resumes = none
-sort_takes r Plain = none
+sort_takes r (Asks a) = None
+sort_takes r (Takes a) = Some (strike_of r a)
+sort_takes r Restores = None
+sort_takes r Resumes = None
+sort_takes r Plain = None
 
 unfoldable pub takes : Kind → Option Strike
 unfolding sort_takes
-takes (Opens limits starts) = none
+takes (Opens limits starts) = None
 takes (OnOne r d) = sort_takes r d
-takes (Sets limits) = none
-takes Other = none
+takes (Sets limits) = None
+takes Other = None
 
 -- what makes a register afresh, by its answer: of all that is done on a register, a resume alone
 unfoldable pub renews : Sort → Answer → Bool
@@ -83,8 +82,8 @@ remade_among r ws (g ∷ gs) = remade_by r g.call (answered ws g) || remade_amon
 -- register, `later` is a judge, a take or one of their batch forms that asks about the same ticket: then it does not answer New
 abbrev pub NoTicketTwice : Type 0
 NoTicketTwice =
-    (ws : List ℕ) (t : Strike) (first : Given) (between : List Given) (later : Given) → takes (kind first.call) ≡ some t
-    → answered ws first ≡ Said New → remade_among t.register (left_by ws first) between ≡ false → asks_about (kind later.call) ≡ some t
+    (ws : List ℕ) (t : Strike) (first : Given) (between : List Given) (later : Given) → takes (kind first.call) ≡ Some t
+    → answered ws first ≡ Said New → remade_among t.register (left_by ws first) between ≡ false → asks_about (kind later.call) ≡ Some t
     → answered (words_after (left_by ws first) between) later ≡ Said New → ⊥
 
 -- ---- lists of events, for calls that come later: each says which kind of event it is, and the promise holds among them
@@ -95,12 +94,12 @@ pub data Moment : Type 0 where
 
 -- a take or a take_batch answered New for the ticket
 abbrev pub Accepted : Strike → Moment → Type 0
-Accepted t (Answered c a) = (takes (kind c) ≡ some t) × (a ≡ Said New)
+Accepted t (Answered c a) = (takes (kind c) ≡ Some t) × (a ≡ Said New)
 Accepted t Replacement = ⊥
 
 -- a judge, a take or one of their batch forms answered New for the ticket
 abbrev pub CalledNew : Strike → Moment → Type 0
-CalledNew t (Answered c a) = (asks_about (kind c) ≡ some t) × (a ≡ Said New)
+CalledNew t (Answered c a) = (asks_about (kind c) ≡ Some t) × (a ≡ Said New)
 CalledNew t Replacement = ⊥
 
 -- register r is made afresh

@@ -1,8 +1,7 @@
 -- A failed generation raises the floor (specs/FloorCovers), on words: after a restore that came out Partly a floor is told. It is at least
 -- the newest stamp of one of the dump's generations, and at least the newest stamp that the register had of that bucket in that class
 -- before the restore.
-use Rattle.std.specs.Prelude.{ℕ, ◌≡◌, List}
-use Rattle.std.proofs.Math.Option.{some}
+use Rattle.std.specs.Prelude.{ℕ, ◌≡◌, Some, List}
 use Rattle.model.specs.declared.Class.{Class}
 use Rattle.model.specs.Answer.{Answer}
 use Rattle.model.specs.Answer.{Partly}
@@ -23,7 +22,7 @@ had st ws r c b = generation_at (pick c (register_at r (held_in (settings_of st)
 
 pub record RaisedByOne (st ws : List ℕ) (r : ℕ) (bytes : List ℕ) : Type 0 where
   pub dump : Dump
-  pub read : read_dump bytes ≡ some dump
+  pub read : read_dump bytes ≡ Some dump
   pub class : Class
   pub failed : Dumped
   pub its : OneOf failed (pick class dump.classes)

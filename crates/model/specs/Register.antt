@@ -1,6 +1,5 @@
 -- A register and its rings, "Sweep and floor", and how a register starts and begins.
-use Rattle.std.specs.Prelude.{ℕ, zero, suc, ◌-◌, ◌*◌, ◌%◌, max, Bool, true, false, not, ◌&&◌, ◌||◌, List, [], ◌∷◌, leb, ltb, eqb, length, get_or, set, replicate, if◌then◌else◌}
-use Rattle.std.proofs.Math.Option.{Option, none, some}
+use Rattle.std.specs.Prelude.{ℕ, zero, suc, ◌-◌, ◌*◌, ◌%◌, max, Bool, true, false, not, ◌&&◌, ◌||◌, Option, Some, None, List, [], ◌∷◌, leb, ltb, eqb, length, get_or, set, replicate, if◌then◌else◌}
 use Rattle.model.specs.declared.Class.{Class}
 use Rattle.model.specs.declared.Start.{Start}
 use Rattle.model.specs.declared.Start.TheVariants.{Empty, Fallback, At}
@@ -132,9 +131,9 @@ started_with u floor pending = record {
 }
 
 unfoldable pub started : Usable → Start → Register
-started u Empty = started_with u none false
-started u Fallback = started_with u none true
-started u (At f) = started_with u (some f) false
+started u Empty = started_with u None false
+started u Fallback = started_with u None true
+started u (At f) = started_with u (Some f) false
 
 -- ---- begin: "a Fallback start is pending until it raises the floor to the host's number; later begins answer Already"
 unfoldable pub begin : ℕ → Register → Register

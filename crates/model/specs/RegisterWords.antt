@@ -1,8 +1,7 @@
 -- "Settings and soundness": a register's words, and when they are sound.
 -- A register: 24 words (its six settings as kept, swept, the published sweep, whether there is a floor, the floor, whether it is
 -- pending, 13 spare words), then for each class a ring of generations.
-use Rattle.std.specs.Prelude.{ℕ, ◌≡◌, Bool, true, false, cond, ◌&&◌, ◌||◌, List, ◌∷◌, length, get_or, drop, eqb, leb}
-use Rattle.std.proofs.Math.Option.{Option, none, some}
+use Rattle.std.specs.Prelude.{ℕ, ◌≡◌, Bool, true, false, cond, ◌&&◌, ◌||◌, Option, Some, None, List, ◌∷◌, length, get_or, drop, eqb, leb}
 use Rattle.model.specs.declared.Class.{Class}
 use Rattle.model.specs.declared.Class.TheVariants.{Feeders, Peers, Own}
 use Rattle.model.specs.declared.Usable.{Usable}
@@ -29,15 +28,15 @@ flag_word true = 1
 flag_word false = 0
 
 abbrev pub floor_flag : Option ℕ → ℕ
-floor_flag none = 0
-floor_flag (some f) = 1
+floor_flag None = 0
+floor_flag (Some f) = 1
 
 abbrev pub floor_word : Option ℕ → ℕ
-floor_word none = 0
-floor_word (some f) = f
+floor_word None = 0
+floor_word (Some f) = f
 
 abbrev pub read_floor : ℕ → ℕ → Option ℕ
-read_floor flag floor = cond (eqb flag 1) (some floor) none
+read_floor flag floor = cond (eqb flag 1) (Some floor) None
 
 abbrev pub floor_sound : ℕ → ℕ → Bool
 floor_sound flag floor = leb flag 1 && (eqb flag 1 || eqb floor 0)

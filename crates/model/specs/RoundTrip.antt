@@ -10,8 +10,7 @@
 --
 -- "Enough room: book open; per class with entries in the dump, the limit covers present units, those entries and a new Restored place's
 -- units, a place is free and E covers its seconds with those already listed."
-use Rattle.std.specs.Prelude.{ℕ, ◌+◌, ◌*◌, ◌≤◌, ◌<◌, ◌≡◌, Bool, true, false, cond, not, ◌&&◌, List, [], ◌∷◌, ◌++◌, eqb, length, get_or, take, replicate}
-use Rattle.std.proofs.Math.Option.{some}
+use Rattle.std.specs.Prelude.{ℕ, ◌+◌, ◌*◌, ◌≤◌, ◌<◌, ◌≡◌, Bool, true, false, cond, not, ◌&&◌, Some, List, [], ◌∷◌, ◌++◌, eqb, length, get_or, take, replicate}
 use Rattle.model.specs.declared.Class.{Class}
 use Rattle.model.specs.declared.Deliverer.{Deliverer}
 use Rattle.model.specs.declared.Deliverer.TheVariants.{Restored}
@@ -72,7 +71,7 @@ pub record SameRing (from to : Ring) : Type 0 where
 
 pub record BroughtBack (from to : Register) : Type 0 where
   pub rings : (c : Class) → SameRing (pick c from.rings) (pick c to.rings)
-  pub floor : (from.floor ≡ some top64 → ⊥) → to.floor ≡ from.floor
+  pub floor : (from.floor ≡ Some top64 → ⊥) → to.floor ≡ from.floor
 
 -- ---- words and bytes
 -- lent words are 64-bit numbers
@@ -83,7 +82,7 @@ Words64 (w ∷ ws) = (w ≤ top64) × Words64 ws
 -- the source: any words that hold a state, of which register r was dumped, as many bytes as the call said
 pub record Source (st ws : List ℕ) (t : State) (r : ℕ) (out : List ℕ) (n : ℕ) : Type 0 where
   pub words : Words64 ws
-  pub holds : view ws ≡ some t
+  pub holds : view ws ≡ Some t
   pub said : reply st ws (On r (DumpTo out)) ≡ Dumped n
 
 -- what the call wrote
@@ -93,7 +92,7 @@ written st ws r out n = take n (output_after st ws (On r (DumpTo out)))
 -- the target: any words that hold a state, under the settings that come with the call; register q has the source's settings, and is
 -- untouched since its opening Empty
 pub record Target (u : Usable) (st ws : List ℕ) (t : State) (q : ℕ) : Type 0 where
-  pub holds : view ws ≡ some t
+  pub holds : view ws ≡ Some t
   pub fit : settings_words_fit st ≡ true
   pub kept : kept_settings ws ≡ settings_of st
   pub there : q < (settings_of st).registers
@@ -104,7 +103,7 @@ pub record Target (u : Usable) (st ws : List ℕ) (t : State) (q : ℕ) : Type 0
 pub record Returns (from : Register) (dump : List ℕ) (st ws : List ℕ) (q : ℕ) (bytes : List ℕ) : Type 0 where
   pub answer : reply st ws (On q (Restore bytes)) ≡ Whole (length dump)
   pub left : State
-  pub holds : view (after st ws (On q (Restore bytes))) ≡ some left
+  pub holds : view (after st ws (On q (Restore bytes))) ≡ Some left
   pub brought : BroughtBack from (register_at q left)
 
 abbrev pub RoundTrip : Type 0
@@ -135,5 +134,5 @@ abbrev pub StaysUntouched : Type 0
 StaysUntouched =
     (start st limits starts : List ℕ) (calls : List Given) (q : ℕ) (t : State)
     → went_through (reply st start (Open limits starts)) ≡ true → q < (settings_of st).registers → get_or starts (2 * q) 0 ≡ 0
-    → none_touches q calls ≡ true → view (words_after (after st start (Open limits starts)) calls) ≡ some t
+    → none_touches q calls ≡ true → view (words_after (after st start (Open limits starts)) calls) ≡ Some t
     → register_at q t ≡ started (usable_at (settings_of st) q) Empty

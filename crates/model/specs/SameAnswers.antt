@@ -1,7 +1,6 @@
 -- Words answer as the rules do. Words that hold a state answer any list of calls as the rules answer it on that state, refusals included,
 -- and then hold the state that the rules come to. From an opening on any words do so: specs/SameFromOpening.
-use Rattle.std.specs.Prelude.{ℕ, ◌≡◌, cond, List, [], ◌∷◌, eqb}
-use Rattle.std.proofs.Math.Option.{some}
+use Rattle.std.specs.Prelude.{ℕ, ◌≡◌, cond, Some, List, [], ◌∷◌, eqb}
 use Rattle.model.specs.Answer.{Answer}
 use Rattle.model.specs.Answer.{Refused}
 use Rattle.model.specs.Settings.{settings_of}
@@ -37,7 +36,7 @@ words_left st ws (c ∷ cs) = words_left st (after st ws c) cs
 pub record SameOn (st ws : List ℕ) (t : State) (calls : List Call) : Type 0 where
   pub answers : answers_on st ws calls ≡ answers_from st t calls
   pub holds : held_in (settings_of st) (words_left st ws calls) ≡ state_after st t calls
-  pub seen : view (words_left st ws calls) ≡ some (state_after st t calls)
+  pub seen : view (words_left st ws calls) ≡ Some (state_after st t calls)
 
 abbrev pub SameAnswers : Type 0
 SameAnswers = (st ws : List ℕ) → Vetted st ws → (calls : List Call) → SameOn st ws (held_in (settings_of st) ws) calls

@@ -7,6 +7,7 @@
 -- Of any words, settings and register, and any 64-bit reading: `take_batch` is asked on the same words, with the same arguments and the
 -- stamp. That `stamp_for` alters nothing: specs/ReadersLeave.
 use Rattle.std.specs.Prelude.{ℕ, ◌+◌, ◌*◌, ◌≤◌, ◌<◌, ◌≡◌, true, false, List, length}
+use Rattle.model.specs.declared.Manner.TheVariants.{TakenBatch}
 use Rattle.model.specs.Answer.{Answer}
 use Rattle.model.specs.Answer.{Refused, Said, NoStamp, StampAt}
 use Rattle.model.specs.Numbers.{top64}
@@ -14,13 +15,13 @@ use Rattle.model.specs.Settings.{settings_of, usable_at, ring_of}
 use Rattle.model.specs.Codes.{verdict_fits, verdict_of}
 use Rattle.model.specs.Register.{sweep}
 use Rattle.model.specs.Stamp.{stamps}
-use Rattle.model.specs.Calls.{taken_batch, Seeking, asking_at, Ticket, StampFor, Call, On, ask_of, register_at, held_in, refused, reply}
+use Rattle.model.specs.Calls.{Seeking, asking_at, Ticket, StampFor, Call, On, ask_of, register_at, held_in, refused, reply}
 
 abbrev pub seek_call : ℕ → Seeking → Call
 seek_call r q = On r (StampFor q)
 
 abbrev pub take_call : ℕ → Seeking → ℕ → Call
-take_call r q x = On r (Ticket taken_batch (asking_at x q))
+take_call r q x = On r (Ticket TakenBatch (asking_at x q))
 
 -- `take_batch` would answer the wanted verdict
 abbrev pub Gives : List ℕ → List ℕ → ℕ → Seeking → ℕ → Type 0

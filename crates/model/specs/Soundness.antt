@@ -1,8 +1,7 @@
 -- Soundness is kept: the register never refuses its own words.
 -- "Settings and soundness" says which words are sound; `(state_form s).Ok` says the same of the state that they hold: slots distinct
 -- and found by probing, at most 3/4 full and a power of two; pairs rising; totals the sums; entries at most 2,000,000; and so on.
-use Rattle.std.specs.Prelude.{ℕ, ◌≤◌, ◌≡◌, true, false, List, length}
-use Rattle.std.proofs.Math.Option.{some}
+use Rattle.std.specs.Prelude.{ℕ, ◌≤◌, ◌≡◌, true, false, Some, List, length}
 use Rattle.model.specs.declared.Settings.{Settings}
 use Rattle.model.specs.Settings.{settings_of, settings_fit, words_needed}
 use Rattle.model.specs.Words.{State, state_form}
@@ -36,7 +35,7 @@ pub record Simulated (ws : List ℕ) (g : Given) : Type 0 where
   pub vetted : Vetted g.settings (left_by ws g)
   pub holds : held_in (settings_of g.settings) (left_by ws g)
       ≡ (step (settings_of g.settings) g.call (held_in (settings_of g.settings) ws)).state
-  pub seen : view (left_by ws g) ≡ some (step (settings_of g.settings) g.call (held_in (settings_of g.settings) ws)).state
+  pub seen : view (left_by ws g) ≡ Some (step (settings_of g.settings) g.call (held_in (settings_of g.settings) ws)).state
   pub as_long : length (left_by ws g) ≡ length ws
 
 abbrev pub Simulation : Type 0

@@ -1,7 +1,6 @@
 -- Request Q-13: "the smallest 64-bit stamp for which `take_batch` would answer the wanted verdict, or none". Every test in `take_batch`
 -- changes its outcome at stamps of a short list alone, so the smallest stamp with a verdict is in that list. No other stamp is tried.
-use Rattle.std.specs.Prelude.{ℕ, zero, suc, ◌+◌, ◌-◌, ◌*◌, Bool, true, ◌&&◌, List, [], ◌∷◌, ◌++◌, ltb, if◌then◌else◌}
-use Rattle.std.proofs.Math.Option.{Option, none, some}
+use Rattle.std.specs.Prelude.{ℕ, zero, suc, ◌+◌, ◌-◌, ◌*◌, Bool, true, ◌&&◌, Option, Some, None, List, [], ◌∷◌, ◌++◌, ltb, if◌then◌else◌}
 use Rattle.model.specs.declared.Usable.{Usable}
 use Rattle.model.specs.declared.Verdict.{Verdict}
 use Rattle.model.specs.declared.Shares.{Shares}
@@ -26,8 +25,8 @@ unfoldable pub first_stamp : Usable → ℕ → ℕ
 first_stamp u b = cap64 (cap64 ((b - 1) * u.bucket) + 1) - retained u
 
 unfoldable pub floor_stamps : Option ℕ → List ℕ
-floor_stamps none = []
-floor_stamps (some f) = cap64 (f + 1) ∷ []
+floor_stamps None = []
+floor_stamps (Some f) = cap64 (f + 1) ∷ []
 
 -- 0, the window's first, the first past its front, and the first above the floor, if there is one
 unfoldable pub edge_stamps : Window → ℕ → Option ℕ → List ℕ
@@ -56,11 +55,11 @@ stamps u reg a =
 
 -- ---- the least of them that meets a test
 abbrev pub below : ℕ → Option ℕ → Bool
-below x none = true
-below x (some best) = ltb x best
+below x None = true
+below x (Some best) = ltb x best
 
 unfoldable pub better : (ℕ → Bool) → ℕ → Option ℕ → Option ℕ
-better meets x best = if below x best && meets x then some x else best
+better meets x best = if below x best && meets x then Some x else best
 
 unfoldable pub least_from : (ℕ → Bool) → List ℕ → Option ℕ → Option ℕ
 least_from meets [] best = best
@@ -69,7 +68,7 @@ least_from meets (x ∷ xs) best = least_from meets xs (better meets x best)
 -- ---- the call: the stamp of the question is not read
 unfoldable pub stamp_for : Usable → Shares → Register → Book → Ask → Verdict → Option ℕ
 stamp_for u b reg book a wanted =
-    least_from (λ x. same_verdict wanted (batch_at u b reg book a x)) (stamps u (sweep u a.ms reg) a) none
+    least_from (λ x. same_verdict wanted (batch_at u b reg book a x)) (stamps u (sweep u a.ms reg) a) None
 
 -- the rules of this file, for a theorem that computes
 unfoldable pub compute_stamp : ℕ

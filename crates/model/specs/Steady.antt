@@ -9,8 +9,8 @@
 -- on other registers are free, and so are restores and resumes there.
 --
 -- Two things hold beyond the sentence: the bound is not needed, and of the readings those of takes are enough.
-use Rattle.std.specs.Prelude.{ℕ, ◌+◌, ◌≤◌, ◌<◌, ◌≡◌, Bool, true, false, cond, not, ◌&&◌, List, [], ◌∷◌, leb, eqb, if◌then◌else◌}
-use Rattle.std.proofs.Math.Option.{Option, none, some}
+use Rattle.std.specs.Prelude.{ℕ, ◌+◌, ◌≤◌, ◌<◌, ◌≡◌, Bool, true, false, cond, not, ◌&&◌, Option, Some, None, List, [], ◌∷◌, leb, eqb, if◌then◌else◌}
+use Rattle.model.specs.declared.Manner.TheVariants.{Judged, Taken, TakenBatch}
 use Rattle.model.specs.declared.Usable.{Usable}
 use Rattle.model.specs.declared.Verdict.TheVariants.{New, Late}
 use Rattle.model.specs.Answer.{Said}
@@ -18,25 +18,25 @@ use Rattle.model.specs.Numbers.{top64}
 use Rattle.model.specs.Settings.{settings_of, usable_at, retained, ahead}
 use Rattle.model.specs.Words.{State}
 use Rattle.model.specs.Codes.{went_through}
-use Rattle.model.specs.Calls.{Asking, judged, taken, taken_batch, Ticket, Call, On, Sort, Asks, Takes, Restores, Resumes, Plain, Kind, Opens, OnOne, Sets, Other}
+use Rattle.model.specs.Calls.{Asking, Ticket, Call, On, Sort, Asks, Takes, Restores, Resumes, Plain, Kind, Opens, OnOne, Sets, Other}
 use Rattle.model.specs.Calls.{ask_of, reading_of_ask, kind, reading_of, is_open, register_at, held_in, reply}
 use Rattle.model.specs.View.{Given, answered, left_by, words_after}
 use Rattle.model.specs.RoundTrip.{reaches}
 
 -- ---- readings: which calls bring one. Of every call that sweeps its register it is `reading_of` (specs/Calls); of takes alone this
 unfoldable pub sort_taking : Sort → Option ℕ
-sort_taking (Asks a) = none
+sort_taking (Asks a) = None
 sort_taking (Takes a) = reading_of_ask (ask_of a)
-sort_taking Restores = none
-sort_taking Resumes = none
-sort_taking Plain = none
+sort_taking Restores = None
+sort_taking Resumes = None
+sort_taking Plain = None
 
 unfoldable pub kind_taking : Kind → Option ℕ
 unfolding sort_taking
-kind_taking (Opens limits starts) = none
+kind_taking (Opens limits starts) = None
 kind_taking (OnOne r d) = sort_taking d
-kind_taking (Sets limits) = none
-kind_taking Other = none
+kind_taking (Sets limits) = None
+kind_taking Other = None
 
 unfoldable pub taking_of : Call → Option ℕ
 unfolding kind kind_taking
@@ -48,7 +48,7 @@ Readings = Call → Option ℕ
 -- the reading by which a call sweeps register r of a state: none if it is not on it, and none while it is pending
 unfoldable pub reading_on : ℕ → Kind → Option ℕ → State → Option ℕ
 unfolding reaches
-reading_on r k ms t = cond (reaches r k && not (register_at r t).pending) ms none
+reading_on r k ms t = cond (reaches r k && not (register_at r t).pending) ms None
 
 unfoldable pub reading_by : Readings → ℕ → Call → State → Option ℕ
 unfolding reading_on kind
@@ -56,13 +56,13 @@ reading_by brings r call t = reading_on r (kind call) (brings call) t
 
 -- the last reading, with one more or none
 abbrev pub latest : Option ℕ → ℕ → ℕ
-latest none last = last
-latest (some ms) last = ms
+latest None last = last
+latest (Some ms) last = ms
 
 -- an equal reading is no fall
 abbrev pub no_fall : Option ℕ → ℕ → Bool
-no_fall none last = true
-no_fall (some ms) last = leb last ms
+no_fall None last = true
+no_fall (Some ms) last = leb last ms
 
 -- ---- what gives a register other generations than its takes and sweeps do: an opening, and a restore or a resume on it
 unfoldable pub sort_disturbs : Sort → Bool
@@ -100,14 +100,14 @@ ticked brings r call t c = record {
 }
 
 abbrev pub ticked_if : Readings → ℕ → Call → State → Option Clock → Option Clock
-ticked_if brings r call t none = none
-ticked_if brings r call t (some c) = some (ticked brings r call t c)
+ticked_if brings r call t None = None
+ticked_if brings r call t (Some c) = Some (ticked brings r call t c)
 
 -- a call was heard: a refused one counts for nothing, and an opening starts the clock
 unfoldable pub clock_heard : Readings → ℕ → Given → List ℕ → Option Clock → Option Clock
 clock_heard brings r g ws c =
     if went_through (answered ws g)
-    then (if is_open g.call then some at_opening else ticked_if brings r g.call (held_in (settings_of g.settings) ws) c)
+    then (if is_open g.call then Some at_opening else ticked_if brings r g.call (held_in (settings_of g.settings) ws) c)
     else c
 
 -- none before an opening went through
@@ -118,7 +118,7 @@ clock_since brings r c ws (g ∷ gs) = clock_since brings r (clock_heard brings 
 -- ---- the conditions
 -- "on a register opened here": an opening in the list went through, and this is the clock of register r since the last
 abbrev pub OpenedHere : Readings → ℕ → List ℕ → List Given → Clock → Type 0
-OpenedHere brings r start calls c = clock_since brings r none start calls ≡ some c
+OpenedHere brings r start calls c = clock_since brings r None start calls ≡ Some c
 
 -- on that register, for a ticket with this reading
 pub record Steady (c : Clock) (ms : ℕ) : Type 0 where
@@ -133,13 +133,13 @@ StaysBelow u ms = ms + ahead u + retained u + u.bucket < 18_446_744_073_709_551_
 
 -- "judge says New on the same words with the same arguments"
 abbrev pub JudgeSaysNew : List ℕ → List ℕ → ℕ → Asking → Type 0
-JudgeSaysNew st ws r a = reply st ws (On r (Ticket judged a)) ≡ Said New
+JudgeSaysNew st ws r a = reply st ws (On r (Ticket Judged a)) ≡ Said New
 
 -- ---- the promise
 -- "a take is never Late"
 pub record NeverLate (st ws : List ℕ) (r : ℕ) (a : Asking) : Type 0 where
-  pub by_take : reply st ws (On r (Ticket taken a)) ≡ Said Late → ⊥
-  pub by_take_batch : reply st ws (On r (Ticket taken_batch a)) ≡ Said Late → ⊥
+  pub by_take : reply st ws (On r (Ticket Taken a)) ≡ Said Late → ⊥
+  pub by_take_batch : reply st ws (On r (Ticket TakenBatch a)) ≡ Said Late → ⊥
 
 -- THE PROMISE: the customer's sentence, with his bound
 abbrev pub SteadyNeverLate : List ℕ → List Given → Type 0

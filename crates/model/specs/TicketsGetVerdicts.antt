@@ -1,7 +1,6 @@
 -- "Each returns its number alone": where a judge, a take or a batch form returns no refusal's number, it answers a verdict.
 -- Of any words and settings. That 0 is no refusal's number: specs/ZeroIsThrough.
-use Rattle.std.specs.Prelude.{ℕ, ◌≡◌, List}
-use Rattle.std.proofs.Math.Option.{some}
+use Rattle.std.specs.Prelude.{ℕ, ◌≡◌, Some, List}
 use Rattle.model.specs.declared.Verdict.{Verdict}
 use Rattle.model.specs.Answer.{Answer}
 use Rattle.model.specs.Answer.{Said}
@@ -16,4 +15,4 @@ pub record Verdicts (a : Answer) : Type 0 where
 
 abbrev pub TicketsGetVerdicts : Type 0
 TicketsGetVerdicts =
-    (st ws : List ℕ) (call : Call) (t : Strike) → asks_about (kind call) ≡ some t → answer_number (reply st ws call) ≡ 0 → Verdicts (reply st ws call)
+    (st ws : List ℕ) (call : Call) (t : Strike) → asks_about (kind call) ≡ Some t → answer_number (reply st ws call) ≡ 0 → Verdicts (reply st ws call)

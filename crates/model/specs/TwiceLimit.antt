@@ -3,10 +3,11 @@
 use Rattle.std.specs.Prelude.{ℕ, ◌*◌, ◌≤◌, ◌<◌, ◌≡◌, false, List}
 use Rattle.model.specs.declared.Class.{Class}
 use Rattle.model.specs.declared.Deliverer.{Deliverer}
+use Rattle.model.specs.declared.Manner.{Manner}
 use Rattle.model.specs.Settings.{settings_of}
 use Rattle.model.specs.Class.{class_of, deliverer_of}
 use Rattle.model.specs.Book.{units, together, fair, places_of}
-use Rattle.model.specs.Calls.{Manner, Asking, Ticket, On, held_in, after}
+use Rattle.model.specs.Calls.{Asking, Ticket, On, held_in, after}
 
 -- a class's units and its limit, in words under settings
 abbrev pub class_units : List ℕ → List ℕ → Class → ℕ

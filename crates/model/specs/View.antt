@@ -1,6 +1,5 @@
 -- The state that words hold by themselves, under the settings that they keep; and lists of calls on the same words.
-use Rattle.std.specs.Prelude.{ℕ, zero, suc, ◌+◌, ◌-◌, cond, ◌&&◌, List, [], ◌∷◌, ◌++◌, leb, length, get_or, drop, replicate}
-use Rattle.std.proofs.Math.Option.{Option, none, some}
+use Rattle.std.specs.Prelude.{ℕ, zero, suc, ◌+◌, ◌-◌, cond, ◌&&◌, Option, Some, None, List, [], ◌∷◌, ◌++◌, leb, length, get_or, drop, replicate}
 use Rattle.model.specs.declared.Usable.{Usable}
 use Rattle.model.specs.declared.Settings.{Settings}
 use Rattle.model.specs.declared.Shares.{Shares}
@@ -42,7 +41,7 @@ kept_settings ws = record {
 unfoldable pub view : List ℕ → Option State
 view ws =
     let s = kept_settings ws in
-    cond (settings_fit s && (leb (words_needed s) (length ws) && sound s ws)) (some (held_in s ws)) none
+    cond (settings_fit s && (leb (words_needed s) (length ws) && sound s ws)) (Some (held_in s ws)) None
 
 -- what words hold under the settings that they keep: what `view` shows, where they are sound
 abbrev pub holding : List ℕ → State

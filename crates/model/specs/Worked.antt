@@ -1,6 +1,8 @@
 -- "Tickets worked through": the cases marked P in one table, each number of the paper beside the calls that give it.
 -- The theorem that the rules give them all is proofs/Worked; specs/WorkedOnWords says it of what the calls answer on words.
 use Rattle.std.specs.Prelude.{ℕ, zero, suc, ◌+◌, ◌*◌, ◌%◌, List, [], ◌∷◌, ◌++◌, map, length, replicate}
+use Rattle.model.specs.declared.Manner.{Manner}
+use Rattle.model.specs.declared.Manner.TheVariants.{Judged, JudgedBatch, Taken}
 use Rattle.model.specs.declared.Verdict.TheVariants.{New, Duplicate, Late, Ahead, Full}
 use Rattle.model.specs.Answer.{Answer}
 use Rattle.model.specs.Answer.{Done, Said, Yes, Dumped, NoFloor, FloorAt, Entries, Totals}
@@ -9,7 +11,7 @@ use Rattle.model.specs.Register.{generation_at}
 use Rattle.model.specs.Judge.{bucket_of}
 use Rattle.model.specs.Dump.{dump_words}
 use Rattle.model.specs.Words.{State}
-use Rattle.model.specs.Calls.{Manner, judged, judged_batch, taken, Call, Open, On, Expire, HeldBy, ClassTotals, Ticket, ContainsHash, Sweep, DumpTo, Floor, register_at, opened}
+use Rattle.model.specs.Calls.{Call, Open, On, Expire, HeldBy, ClassTotals, Ticket, ContainsHash, Sweep, DumpTo, Floor, register_at, opened}
 use Rattle.model.specs.SameAnswers.{answers_from, state_after}
 
 -- ---- "Origin 10,000 behind, copy 20,000, both 2,000 ahead; bucket 1,000; ring 24; S 8; ample limits; one register, opened Empty."
@@ -30,15 +32,15 @@ ask m kind id ms fp stamp = On 0 (Ticket m (record { fp = fp; stamp = stamp; ms 
 
 -- "Reading 100,000, Feeder 1, unless said."
 abbrev pub take_it : ℕ → ℕ → Call
-take_it fp stamp = ask taken 0 1 100_000 fp stamp
+take_it fp stamp = ask Taken 0 1 100_000 fp stamp
 
 abbrev pub judge_it : ℕ → ℕ → Call
-judge_it fp stamp = ask judged 0 1 100_000 fp stamp
+judge_it fp stamp = ask Judged 0 1 100_000 fp stamp
 
 -- a Feeder takes n tickets, fingerprints from fp on, in so many buckets that no generation fills
 unfoldable pub takes_by : ℕ → ℕ → ℕ → List Call
 takes_by id zero fp = []
-takes_by id (suc n) fp = ask taken 0 id 100_000 fp (90_000 + 1_000 * (fp % 12)) ∷ takes_by id n (suc fp)
+takes_by id (suc n) fp = ask Taken 0 id 100_000 fp (90_000 + 1_000 * (fp % 12)) ∷ takes_by id n (suc fp)
 
 -- ---- calls on a state: before its opening there is nothing to know of it
 abbrev pub before : State
@@ -64,18 +66,18 @@ cases =
     }
     -- P5, judged only: 90,000 New; 89,999 Late, from a Peer New. P6: 102,000 New; 102,001 Late, batch form Ahead
     ∷ record {
-      calls = open_ample ∷ judge_it 7 90_000 ∷ judge_it 7 89_999 ∷ ask judged 1 1 100_000 7 89_999 ∷ judge_it 7 102_000 ∷ judge_it 7 102_001
-          ∷ ask judged_batch 0 1 100_000 7 102_001 ∷ [];
+      calls = open_ample ∷ judge_it 7 90_000 ∷ judge_it 7 89_999 ∷ ask Judged 1 1 100_000 7 89_999 ∷ judge_it 7 102_000 ∷ judge_it 7 102_001
+          ∷ ask JudgedBatch 0 1 100_000 7 102_001 ∷ [];
       gives = Done ∷ Said New ∷ Said Late ∷ Said New ∷ Said New ∷ Said Late ∷ Said Ahead ∷ [];
     }
     -- P7, after P1 alone: at 120,000 Duplicate; at 120,001 Late, floor 100,000, and Late again at 100,000
     ∷ record {
-      calls = P1 ++ (ask judged 0 1 120_000 7 100_000 ∷ On 0 Floor ∷ ask judged 0 1 120_001 7 100_000 ∷ On 0 Floor ∷ judge_it 7 100_000 ∷ []);
+      calls = P1 ++ (ask Judged 0 1 120_000 7 100_000 ∷ On 0 Floor ∷ ask Judged 0 1 120_001 7 100_000 ∷ On 0 Floor ∷ judge_it 7 100_000 ∷ []);
       gives = Done ∷ Said New ∷ Said Duplicate ∷ NoFloor ∷ Said Late ∷ FloorAt 100_000 ∷ Said Late ∷ [];
     }
     -- P8, after P1 alone: at 76,000, (9, 76,000) judges New, take says Late
     ∷ record {
-      calls = P1 ++ (ask judged 0 1 76_000 9 76_000 ∷ ask taken 0 1 76_000 9 76_000 ∷ []);
+      calls = P1 ++ (ask Judged 0 1 76_000 9 76_000 ∷ ask Taken 0 1 76_000 9 76_000 ∷ []);
       gives = Done ∷ Said New ∷ Said New ∷ Said Late ∷ [];
     }
     -- P9: fingerprints 0 and 1 are one

@@ -1,11 +1,11 @@
-// The numbers that classes, verdicts and refusals go in and out as.
+// The numbers that classes, deliverers, verdicts and refusals go in and out as.
 ghost use Rattle.std.specs.Prelude.{◌≡◌};
 ghost use Rattle.model.specs.Answer.{refusal_number};
-ghost use Rattle.model.specs.Class.{class_number, class_fits, class_at};
+ghost use Rattle.model.specs.Class.{class_number, class_fits, class_at, deliverer_fits, deliverer_of};
 ghost use Rattle.model.specs.Codes.{verdict_number, verdict_fits, verdict_of};
 ghost use Rattle.model.specs.Listed.{listed};
 
-use crate::{Class, Refusal, Verdict};
+use crate::{Class, Deliverer, DelivererCode, Refusal, Verdict};
 
 // The number that a host is told.
 impl From<Refusal> for u64 {
@@ -49,6 +49,23 @@ impl TryFrom<u64> for Class {
             0 => Ok(Class::Feeders),
             1 => Ok(Class::Peers),
             2 => Ok(Class::Own),
+            _ => Err(Refusal::Unfit),
+        }
+    }
+}
+
+impl TryFrom<DelivererCode> for Deliverer {
+    type Error = Refusal;
+
+    ghost try_from_gives = { λ code who. who ≡ listed (deliverer_fits code.kind code.number) (deliverer_of code.kind code.number) };
+
+    #[tactic(auto, unfolding(crate::specs::Class::deliverer_fits, crate::specs::Class::deliverer_of))]
+    fn try_from(code: DelivererCode) -> Result<Deliverer, Refusal> {
+        match code.kind {
+            DelivererCode::FEEDER => Ok(Deliverer::Feeder(code.number)),
+            DelivererCode::PEER => Ok(Deliverer::Peer(code.number)),
+            DelivererCode::RELAY => Ok(Deliverer::Relay),
+            DelivererCode::RESTORED => Ok(Deliverer::Restored(Class::try_from(code.number)?)),
             _ => Err(Refusal::Unfit),
         }
     }

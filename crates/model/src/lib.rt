@@ -21,6 +21,24 @@ pub enum Deliverer {
     Restored(Class),
 }
 
+// A deliverer as a host names it. The number is an id, or of a restored one the number of its class; that of a relay is not read.
+#[derive(Clone, Copy, Debug, PartialEq, Eq)]
+pub struct DelivererCode {
+    pub kind: u64,
+    pub number: u64,
+}
+
+// The kinds of deliverers.
+impl DelivererCode {
+    pub const FEEDER: u64 = 0;
+
+    pub const PEER: u64 = 1;
+
+    pub const RELAY: u64 = 2;
+
+    pub const RESTORED: u64 = 3;
+}
+
 // What a ticket is.
 #[derive(Clone, Copy, Debug, PartialEq, Eq)]
 pub enum Verdict {
@@ -30,6 +48,15 @@ pub enum Verdict {
     Ahead,
     Full,
     Unjudged,
+}
+
+// How a ticket is asked about: judged only, or taken too, each also for a batch.
+#[derive(Clone, Copy, Debug, PartialEq, Eq)]
+pub enum Manner {
+    Judged,
+    JudgedBatch,
+    Taken,
+    TakenBatch,
 }
 
 // How a register starts: with no floor, waiting for the host's number, or at a floor.
@@ -48,7 +75,8 @@ pub enum Probe {
     Nowhere,
 }
 
-// The room found for a fingerprint: a position, or one of two refusals.
+// The room found for a fingerprint: a position, or one of two refusals. An enum of its own, and no Result: a rule of the project names
+// this form, and take and restore take it apart by `let .. else`.
 #[derive(Clone, Copy)]
 pub enum Room {
     At(usize),
@@ -56,7 +84,8 @@ pub enum Room {
     Full,
 }
 
-// What a share book says to a draw: granted, or the first rule that stands against it.
+// What a share book says to a draw: granted, or the first rule that stands against it. An enum of its own, and no Result: `Granted` is one
+// of the eight outcomes that the rules give and the theorems name, and a Result would wrap each of the others once more.
 #[derive(Clone, Copy)]
 pub enum Draw {
     Granted,

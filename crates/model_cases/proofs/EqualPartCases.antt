@@ -3,10 +3,11 @@ use Prim.Native.Nat.{ℕ, ◌/◌}
 use mathlib.Core.Path.{◌≡◌, refl, ◌∙◌}
 use mathlib.Core.Bool.{Bool, true, false, not}
 use mathlib.Core.List.{List, [], ◌∷◌}
-use mathlib.Core.Option.{Option, none, some}
+use Rattle.std.specs.Prelude.{Option, Some, None}
 use lib.Dec.{leb}
 use borrow.Author.Tests.{leb-true, not-true}
 use Rattle.model.specs.Answer.{Said}
+use Rattle.model.specs.declared.Manner.TheVariants.{Judged, Taken, TakenBatch}
 use Rattle.model.specs.declared.Verdict.TheVariants.{New}
 use Rattle.runs.proofs.Cases.{no, all_of, each_true}
 use Rattle.model.specs.Settings.{usable_at}
@@ -15,7 +16,7 @@ use Rattle.model.specs.Generation.{among, as_read, slots_for}
 use Rattle.model.specs.Book.{together, fair, below_share, entries_of, holders_with, own_after, place_free, pair_free, second_of}
 use Rattle.model.specs.Judge.{Ask, bucket_of}
 use Rattle.model.specs.Codes.{went_through}
-use Rattle.model.specs.Calls.{On, Ticket, judged, taken, taken_batch, ask_of, register_at, reply, compute_rules}
+use Rattle.model.specs.Calls.{On, Ticket, ask_of, register_at, reply, compute_rules}
 use Rattle.model.specs.View.{words_after}
 use Rattle.model.specs.EqualPart.{compute_equal_part, Since, since_opening, met, places_beside, Due, answer_due}
 use Rattle.model_cases.specs.EqualPartCases.{compute_words, settings, start, Case, three_parties, another_bucket, answers, heard_of_three, found, yields}
@@ -34,8 +35,8 @@ tests x a =
     ∷ pair_free b a.who (second_of (bucket_of u a.stamp) u.bucket) ps ∷ leb (slots_for (among (as_read a.fp) g.slots) g.slots) u.slots ∷ []
 
 unfoldable passes : Option Since → Ask → Bool
-passes none a = false
-passes (some x) a = all_of x.unchanged (tests x a)
+passes None a = false
+passes (Some x) a = all_of x.unchanged (tests x a)
 
 -- all rules
 unfoldable compute_all : ℕ
@@ -53,9 +54,9 @@ Conditions c =
     Due (usable_at (yields c).settings 0) (yields c).settings.shares (register_at 0 (yields c).state) (yields c).state.book (ask_of c.asks)
 
 pub record Met (c : Case) : Type 0 where
-  pub opened : since_opening none start c.calls ≡ some (yields c)
+  pub opened : since_opening None start c.calls ≡ Some (yields c)
   pub unchanged : (yields c).unchanged ≡ true
-  pub judged_new : reply settings (words_after start c.calls) (On 0 (Ticket judged c.asks)) ≡ Said New
+  pub judged_new : reply settings (words_after start c.calls) (On 0 (Ticket Judged c.asks)) ≡ Said New
   pub conditions : Conditions c
 
 tests_due : (x : Since) (a : Ask) → all_of x.unchanged (tests x a) ≡ true
@@ -78,19 +79,19 @@ tests_due x a t =
 
 abbrev Found : Option Since → Ask → Type 0
 Found k a =
-    (k ≡ some (found k)) × ((found k).unchanged ≡ true)
+    (k ≡ Some (found k)) × ((found k).unchanged ≡ true)
     × Due (usable_at (found k).settings 0) (found k).settings.shares (register_at 0 (found k).state) (found k).state.book a
 
 passed : (k : Option Since) (a : Ask) → passes k a ≡ true → Found k a
 unfolding passes
-passed none a t = no (cc)
-passed (some x) a t = let p = tests_due x a t in (refl, p.0, p.1)
+passed None a t = no (cc)
+passed (Some x) a t = let p = tests_due x a t in (refl, p.0, p.1)
 
-meets : (c : Case) → passes (since_opening none start c.calls) (ask_of c.asks) ≡ true
-    → reply settings (words_after start c.calls) (On 0 (Ticket judged c.asks)) ≡ Said New → Met c
+meets : (c : Case) → passes (since_opening None start c.calls) (ask_of c.asks) ≡ true
+    → reply settings (words_after start c.calls) (On 0 (Ticket Judged c.asks)) ≡ Said New → Met c
 unfolding yields
 meets c t new =
-    let p = passed (since_opening none start c.calls) (ask_of c.asks) t in
+    let p = passed (since_opening None start c.calls) (ask_of c.asks) t in
     record { opened = p.0; unchanged = p.1; judged_new = new; conditions = p.2 }
 
 -- ---- what is due is promised, so it is told
@@ -98,8 +99,8 @@ abbrev Due_is : Case → Type 0
 Due_is c = answer_due (usable_at (yields c).settings 0) (register_at 0 (yields c).state) (ask_of c.asks) ≡ Said c.due
 
 pub record Told (c : Case) : Type 0 where
-  pub by_take : reply settings (words_after start c.calls) (On 0 (Ticket taken c.asks)) ≡ Said c.due
-  pub by_take_batch : reply settings (words_after start c.calls) (On 0 (Ticket taken_batch c.asks)) ≡ Said c.due
+  pub by_take : reply settings (words_after start c.calls) (On 0 (Ticket Taken c.asks)) ≡ Said c.due
+  pub by_take_batch : reply settings (words_after start c.calls) (On 0 (Ticket TakenBatch c.asks)) ≡ Said c.due
 
 told : (c : Case) → Met c → Due_is c → Told c
 told c m e =
@@ -107,11 +108,11 @@ told c m e =
     record { by_take = g.from_take ∙ e; by_take_batch = g.from_take_batch ∙ e }
 
 -- ---- three parties above T: New
-three_pass : passes (since_opening none start three_parties.calls) (ask_of three_parties.asks) ≡ true
+three_pass : passes (since_opening None start three_parties.calls) (ask_of three_parties.asks) ≡ true
 unfolding compute_all
 three_pass = refl
 
-three_judged : reply settings (words_after start three_parties.calls) (On 0 (Ticket judged three_parties.asks)) ≡ Said New
+three_judged : reply settings (words_after start three_parties.calls) (On 0 (Ticket Judged three_parties.asks)) ≡ Said New
 unfolding compute_all
 three_judged = refl
 
@@ -126,11 +127,11 @@ pub three_parties_told : Told three_parties
 three_parties_told = told three_parties three_parties_met three_due
 
 -- ---- the position is another bucket's: Late
-another_pass : passes (since_opening none start another_bucket.calls) (ask_of another_bucket.asks) ≡ true
+another_pass : passes (since_opening None start another_bucket.calls) (ask_of another_bucket.asks) ≡ true
 unfolding compute_all
 another_pass = refl
 
-another_judged : reply settings (words_after start another_bucket.calls) (On 0 (Ticket judged another_bucket.asks)) ≡ Said New
+another_judged : reply settings (words_after start another_bucket.calls) (On 0 (Ticket Judged another_bucket.asks)) ≡ Said New
 unfolding compute_all
 another_judged = refl
 

@@ -3,11 +3,12 @@ use Prim.Native.Nat.{ℕ}
 use mathlib.Core.Path.{◌≡◌, refl}
 use mathlib.Core.Bool.{true, false}
 use mathlib.Core.List.{List, [], ◌∷◌}
-use mathlib.Core.Option.{some}
+use Rattle.std.specs.Prelude.{Some}
 use lib.Dec.{lit≤}
 use lib.ListN.{replicate}
 use Rattle.runs.specs.Chunks.{flat}
 use Rattle.model.specs.declared.Class.TheVariants.{Feeders}
+use Rattle.model.specs.declared.Manner.TheVariants.{Judged, Taken}
 use Rattle.model.specs.declared.Verdict.TheVariants.{New, Duplicate, Late}
 use Rattle.model.specs.Answer.{Answer}
 use Rattle.model.specs.Answer.{Done, Said, Whole, Partly, FloorAt}
@@ -15,7 +16,7 @@ use Rattle.model.specs.Numbers.{top64}
 use Rattle.model.specs.Settings.{settings_of, usable_at}
 use Rattle.model.specs.Dump.{Dumped, Dump, first, further, word_bytes, read_dump}
 use Rattle.model.specs.Codes.{went_through}
-use Rattle.model.specs.Calls.{judged, taken, Call, On, Sweep, Floor, kind, opened, reply}
+use Rattle.model.specs.Calls.{Call, On, Sweep, Floor, kind, opened, reply}
 use Rattle.model.specs.View.{left_by}
 use Rattle.model.specs.Once.{Strike, asks_about, remade_among, Answered, moments}
 use Rattle.model.specs.SameAnswers.{served, answers_from}
@@ -48,7 +49,7 @@ unfolding compute_all served answers_from
 dump_is_newer = refl
 
 -- the largest stamp
-pub floor_at_the_top : over 8 2 (ask_of_kind taken 0 1 top64 7 top64 ∷ brings_8 18_446_744_073_709_552 99_500 ∷ On 0 Floor ∷ ask_of_kind taken 0 1 top64 7 top64 ∷ [])
+pub floor_at_the_top : over 8 2 (ask_of_kind Taken 0 1 top64 7 top64 ∷ brings_8 18_446_744_073_709_552 99_500 ∷ On 0 Floor ∷ ask_of_kind Taken 0 1 top64 7 top64 ∷ [])
     ≡ Done ∷ Said New ∷ Partly 64 ∷ FloorAt top64 ∷ Said Late ∷ []
 unfolding compute_all served answers_from
 floor_at_the_top = refl
@@ -66,8 +67,8 @@ unfolding compute_all served answers_from
 collision_drops_nothing = refl
 
 -- the failed generation is of Feeders: a Peer's ticket of the same bucket stays
-pub other_classes_stay : over 8 2 (take_it 7 100_000 ∷ ask_of_kind taken 1 1 100_000 9 100_000 ∷ brings_8 120 99_500 ∷ take_it 7 100_000
-    ∷ ask_of_kind judged 1 1 100_000 9 100_000 ∷ [])
+pub other_classes_stay : over 8 2 (take_it 7 100_000 ∷ ask_of_kind Taken 1 1 100_000 9 100_000 ∷ brings_8 120 99_500 ∷ take_it 7 100_000
+    ∷ ask_of_kind Judged 1 1 100_000 9 100_000 ∷ [])
     ≡ Done ∷ Said New ∷ Said New ∷ Partly 64 ∷ Said Late ∷ Said Duplicate ∷ []
 unfolding compute_all served answers_from
 other_classes_stay = refl
@@ -90,16 +91,16 @@ unfolding compute_all
 nine_is_listed = record { class = Feeders; generation = four_dumped; its = first; print = 9; listed = further first; read = refl; bucket = refl; up_to = lit≤ tt }
 
 -- the conditions one by one: the dump is read, the restore goes through, a sweep remakes nothing, and the ticket is asked about
-pub listed_conditions : (read_dump (flat word_bytes four) ≡ some dump_of_four)
+pub listed_conditions : (read_dump (flat word_bytes four) ≡ Some dump_of_four)
     × ((went_through (reply settings opened_words (brings four)) ≡ true)
     × ((remade_among 0 (left_by opened_words (given (brings four))) (given (On 0 (Sweep 7)) ∷ []) ≡ false)
-    × (asks_about (kind (ask judged 1 9 5)) ≡ some nine)))
+    × (asks_about (kind (ask Judged 1 9 5)) ≡ Some nine)))
 unfolding compute_all
 listed_conditions = (refl, (refl, (refl, refl)))
 
 -- the restore comes out Partly: 9 is held nowhere, and late up to the dump's newest, 5. Stamp 6 of the same bucket is past it, and New
-pub listed_after_partly : moments opened_words (given (brings four) ∷ given (ask taken 1 9 5) ∷ given (ask judged 1 9 6) ∷ [])
-    ≡ Answered (brings four) (Partly 88) ∷ Answered (ask taken 1 9 5) (Said Late) ∷ Answered (ask judged 1 9 6) (Said New) ∷ []
+pub listed_after_partly : moments opened_words (given (brings four) ∷ given (ask Taken 1 9 5) ∷ given (ask Judged 1 9 6) ∷ [])
+    ≡ Answered (brings four) (Partly 88) ∷ Answered (ask Taken 1 9 5) (Said Late) ∷ Answered (ask Judged 1 9 6) (Said New) ∷ []
 unfolding compute_all
 listed_after_partly = refl
 
@@ -108,8 +109,8 @@ abbrev lists_zero : Call
 lists_zero = brings (0 ∷ 1 ∷ 3 ∷ 6 ∷ 2 ∷ 0 ∷ 8 ∷ 0 ∷ 0 ∷ [])
 
 pub listed_after_whole : moments opened_words
-    (given lists_zero ∷ given (ask judged 1 1 6) ∷ given (ask taken 1 0 5) ∷ given (On 0 (Sweep 8)) ∷ given (ask taken 1 8 6) ∷ [])
-    ≡ Answered lists_zero (Whole 72) ∷ Answered (ask judged 1 1 6) (Said Duplicate) ∷ Answered (ask taken 1 0 5) (Said Duplicate)
-    ∷ Answered (On 0 (Sweep 8)) Done ∷ Answered (ask taken 1 8 6) (Said Late) ∷ []
+    (given lists_zero ∷ given (ask Judged 1 1 6) ∷ given (ask Taken 1 0 5) ∷ given (On 0 (Sweep 8)) ∷ given (ask Taken 1 8 6) ∷ [])
+    ≡ Answered lists_zero (Whole 72) ∷ Answered (ask Judged 1 1 6) (Said Duplicate) ∷ Answered (ask Taken 1 0 5) (Said Duplicate)
+    ∷ Answered (On 0 (Sweep 8)) Done ∷ Answered (ask Taken 1 8 6) (Said Late) ∷ []
 unfolding compute_all
 listed_after_whole = refl

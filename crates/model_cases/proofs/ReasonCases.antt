@@ -8,6 +8,7 @@ use lib.ListN.{replicate}
 use Rattle.model.specs.Answer.{Answer}
 use Rattle.model.specs.Answer.{Refused, Done, Said, Whole, NoFloor, FloorAt, Because}
 use Rattle.model.specs.declared.Class.TheVariants.{Feeders, Peers, Own}
+use Rattle.model.specs.declared.Manner.TheVariants.{Taken}
 use Rattle.model.specs.declared.Reason.{Reason}
 use Rattle.model.specs.declared.Reason.TheVariants.{Accepted, Pending, Flag, Held, Behind, Ahead, Closed, OwnShare}
 use Rattle.model.specs.declared.Reason.TheVariants.{Floor as UnderFloor, ClassLimit, EqualPart, TwiceLimit, Places, Pairs, Position, Slots}
@@ -18,7 +19,7 @@ use Rattle.model.specs.Words.{State}
 use Rattle.model.specs.Codes.{reason_verdict}
 use Rattle.model.specs.First.{Rule}
 use Rattle.model.specs.Reason.{rules}
-use Rattle.model.specs.Calls.{taken, Asking, Ticket, Sweep, Floor, Explain, Call, Open, On, SetLimits, Close, ask_of, opened, register_at, compute_rules}
+use Rattle.model.specs.Calls.{Asking, Ticket, Sweep, Floor, Explain, Call, Open, On, SetLimits, Close, ask_of, opened, register_at, compute_rules}
 use Rattle.model.specs.View.{answered}
 use Rattle.model.specs.SameAnswers.{served, answers_from, state_after}
 use Rattle.model.specs.Worked.{open_ample, open_twelve, takes_by, strikes, P1, take_it}
@@ -56,7 +57,7 @@ pub record Given : Type 0 where
   pub answers : List Answer
 
 abbrev asked : Asking → List Call
-asked a = On 0 (Explain a) ∷ On 0 (Ticket taken a) ∷ []
+asked a = On 0 (Explain a) ∷ On 0 (Ticket Taken a) ∷ []
 
 unfoldable pub found : Row → Given
 found w =
@@ -148,7 +149,7 @@ rows =
     ∷ row (open_at 0 ∷ Close ∷ []) (ticket 0 1 1 100_000 7 99_999) (Behind ∷ Closed ∷ OwnShare ∷ EqualPart ∷ TwiceLimit ∷ [])
     ∷ row (open_at 0 ∷ Close ∷ []) (ticket 0 1 1 100_000 7 100_001) (Ahead ∷ Closed ∷ OwnShare ∷ EqualPart ∷ TwiceLimit ∷ [])
     -- the floor that a sweep at 100 s would raise: 7 was taken at 1 s; or its bucket was restored, with a newest stamp of 200,000
-    ∷ row (open_with ample ∷ On 0 (Ticket taken (by_feeder 7 1_000)) ∷ []) (ticket 0 1 1 100_000 7 1_000) (UnderFloor ∷ Behind ∷ [])
+    ∷ row (open_with ample ∷ On 0 (Ticket Taken (by_feeder 7 1_000)) ∷ []) (ticket 0 1 1 100_000 7 1_000) (UnderFloor ∷ Behind ∷ [])
     ∷ row (open_with ample ∷ brings (0 ∷ 1 ∷ 1 ∷ 200_000 ∷ 1 ∷ 7 ∷ 0 ∷ 0 ∷ []) ∷ []) (by_restored 0 9 100_000) (UnderFloor ∷ [])
     -- shares: of a Feeder, of a Relay, of a restored deliverer, which has none
     ∷ row (open_with nothing ∷ Close ∷ []) (by_feeder 7 1_000) (Closed ∷ OwnShare ∷ EqualPart ∷ TwiceLimit ∷ [])
@@ -193,7 +194,7 @@ windows_explained = refl
 -- 120,000 it is held still. Then a take sweeps
 pub sweep_not_made : worked_through
     (P1 ++ (explain_at 120_000 7 100_000 ∷ explain_at 120_001 7 100_000 ∷ On 0 Floor ∷ explain_at 120_000 7 100_000
-    ∷ ask_of_kind taken 0 1 120_001 7 100_000 ∷ On 0 Floor ∷ []))
+    ∷ ask_of_kind Taken 0 1 120_001 7 100_000 ∷ On 0 Floor ∷ []))
     ≡ Done ∷ Said New ∷ Because (Held Feeders) ∷ Because UnderFloor ∷ NoFloor ∷ Because (Held Feeders) ∷ Said Late ∷ FloorAt 100_000 ∷ []
 unfolding compute_rules served answers_from
 sweep_not_made = refl
@@ -220,7 +221,7 @@ abbrev by_a_relay : ℕ → Asking
 by_a_relay fp = ticket 2 0 1 100_000 fp 100_000
 
 pub relay_explained : (worked_through
-    (open_relay ∷ On 0 (Ticket taken (by_a_relay 7)) ∷ On 0 (Ticket taken (by_a_relay 8)) ∷ On 0 (Explain (by_a_relay 9)) ∷ [])
+    (open_relay ∷ On 0 (Ticket Taken (by_a_relay 7)) ∷ On 0 (Ticket Taken (by_a_relay 8)) ∷ On 0 (Explain (by_a_relay 9)) ∷ [])
     ≡ Done ∷ Said New ∷ Said New ∷ Because OwnShare ∷ [])
     × (worked_through (open_relay ∷ brings (0 ∷ 0 ∷ 0 ∷ 1 ∷ 120 ∷ 100_000 ∷ 1 ∷ 7 ∷ []) ∷ On 0 (Explain (by_a_relay 9)) ∷ [])
     ≡ Done ∷ Whole 64 ∷ Because ClassLimit ∷ [])

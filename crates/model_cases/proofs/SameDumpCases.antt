@@ -8,6 +8,7 @@ use lib.ListN.{length, replicate}
 use Rattle.runs.specs.Chunks.{flat}
 use Rattle.model.specs.declared.Class.TheVariants.{Feeders}
 use Rattle.model.specs.declared.Deliverer.TheVariants.{Restored}
+use Rattle.model.specs.declared.Manner.TheVariants.{Judged, Taken}
 use Rattle.model.specs.declared.Verdict.TheVariants.{New, Duplicate}
 use Rattle.model.specs.Answer.{Answer}
 use Rattle.model.specs.Answer.{Done, Said, Dumped, Whole, Partly, NoFloor, FloorAt}
@@ -16,7 +17,7 @@ use Rattle.model.specs.Register.{Ring, generation_at}
 use Rattle.model.specs.Dump.{word_bytes}
 use Rattle.model.specs.RawViews.{deliverer_view}
 use Rattle.model.specs.Words.{State}
-use Rattle.model.specs.Calls.{judged, taken, Ticket, DumpTo, Restore, Floor, Call, Open, On, register_at, held_in, reply, output_after}
+use Rattle.model.specs.Calls.{Ticket, DumpTo, Restore, Floor, Call, Open, On, register_at, held_in, reply, output_after}
 use Rattle.model.specs.SameAnswers.{answers_on, words_left}
 use Rattle.model.specs.BringsBack.{ADump, bytes_of}
 use Rattle.model.specs.SameDump.{all_held, each_held}
@@ -45,7 +46,7 @@ feeders n calls = (register_at 0 (state n calls)).rings.of_feeders
 
 -- a Feeder's ticket of bucket 3
 abbrev take_it : ℕ → Call
-take_it fp = ask taken 1 fp 6
+take_it fp = ask Taken 1 fp 6
 
 -- a dump of that bucket's Feeders, and its restore
 abbrev dump_of : List ℕ → List ℕ
@@ -60,7 +61,7 @@ dumps n size calls = output_after (with_slots n) (left n calls) (On 0 (DumpTo (r
 
 -- ---- "see slots double with nothing added": one fingerprint in two slots, which are all. Its own dump comes out Whole, there is no
 -- floor, it is still held, and the next dump has the same bytes
-pub full_onto_itself : (answers 2 (take_it 7 ∷ brings (7 ∷ []) ∷ On 0 Floor ∷ ask judged 1 7 6 ∷ [])
+pub full_onto_itself : (answers 2 (take_it 7 ∷ brings (7 ∷ []) ∷ On 0 Floor ∷ ask Judged 1 7 6 ∷ [])
     ≡ Done ∷ Said New ∷ Whole 64 ∷ NoFloor ∷ Said Duplicate ∷ [])
     × ((dumps 2 64 (take_it 7 ∷ []) ≡ dump_of (7 ∷ [])) × (dumps 2 64 (take_it 7 ∷ brings (7 ∷ []) ∷ []) ≡ dump_of (7 ∷ [])))
 unfolding compute_all answers_on words_left
@@ -109,7 +110,7 @@ zero_and_one_are_one = (refl, refl)
 
 -- ---- held means in that class and bucket: 7 is held by a Peer, or in bucket 4, and is new beside 8, for which there are two slots
 abbrev peer_takes : Call
-peer_takes = On 0 (Ticket taken (record { fp = 7; stamp = 6; ms = 6; flag = 1; kind = 1; number = 1 }))
+peer_takes = On 0 (Ticket Taken (record { fp = 7; stamp = 6; ms = 6; flag = 1; kind = 1; number = 1 }))
 
 pub held_by_another_class : answers 2 (take_it 8 ∷ peer_takes ∷ brings (7 ∷ []) ∷ []) ≡ Done ∷ Said New ∷ Said New ∷ Partly 64 ∷ []
 unfolding compute_all answers_on

@@ -4,16 +4,17 @@ use Prim.Native.Nat.{ℕ}
 use mathlib.Core.Path.{◌≡◌, refl, ap}
 use mathlib.Core.Bool.{true, false}
 use mathlib.Core.List.{List, [], ◌∷◌, map}
-use mathlib.Core.Option.{Option, none, some}
+use Rattle.std.specs.Prelude.{Option, Some, None}
 use lib.Dec.{lit≤}
 use lib.ListN.{replicate}
+use Rattle.model.specs.declared.Manner.TheVariants.{Judged, JudgedBatch, Taken, TakenBatch}
 use Rattle.model.specs.declared.Verdict.TheVariants.{New, Late, Unjudged}
 use Rattle.model.specs.Answer.{Answer}
 use Rattle.model.specs.Answer.{Done, Said, Begun}
 use Rattle.runs.specs.Chunks.{flat}
 use Rattle.model.specs.Settings.{settings_of, usable_at, words_needed}
 use Rattle.model.specs.Dump.{word_bytes}
-use Rattle.model.specs.Calls.{judged, judged_batch, taken, taken_batch, Asking, Ticket, ContainsHash, Begin, Sweep, DumpTo, Restore, Resume, Call, Open, On, Expire}
+use Rattle.model.specs.Calls.{Asking, Ticket, ContainsHash, Begin, Sweep, DumpTo, Restore, Resume, Call, Open, On, Expire}
 use Rattle.model.specs.Calls.{reading_of, reply}
 use Rattle.model.specs.View.{Given, words_after}
 use Rattle.model.specs.Once.{Calls, Replaces, Aside, Answered, moments}
@@ -32,19 +33,19 @@ about flag fp ms = record { fp = fp; stamp = ms; ms = ms; flag = flag; kind = 0;
 
 abbrev some_calls : (r n ms : ℕ) → List ℕ → List Call
 some_calls r n ms bytes =
-    On r (Ticket taken (about 1 n ms)) ∷ On r (Ticket taken_batch (about 1 n ms)) ∷ On r (Ticket judged (about 1 n ms))
-    ∷ On r (Ticket judged_batch (about 1 n ms)) ∷ On r (Sweep ms) ∷ On r (Ticket taken (about 0 n ms)) ∷ On r (Begin ms) ∷ On r (Restore bytes)
+    On r (Ticket Taken (about 1 n ms)) ∷ On r (Ticket TakenBatch (about 1 n ms)) ∷ On r (Ticket Judged (about 1 n ms))
+    ∷ On r (Ticket JudgedBatch (about 1 n ms)) ∷ On r (Sweep ms) ∷ On r (Ticket Taken (about 0 n ms)) ∷ On r (Begin ms) ∷ On r (Restore bytes)
     ∷ On r (Resume bytes 1 ms) ∷ On r (ContainsHash n) ∷ On r (DumpTo bytes) ∷ Expire ms ∷ []
 
 pub readings : (r n ms : ℕ) (bytes : List ℕ)
     → map reading_of (some_calls r n ms bytes)
-    ≡ some ms ∷ some ms ∷ some ms ∷ some ms ∷ some ms ∷ none ∷ none ∷ none ∷ none ∷ none ∷ none ∷ none ∷ []
+    ≡ Some ms ∷ Some ms ∷ Some ms ∷ Some ms ∷ Some ms ∷ None ∷ None ∷ None ∷ None ∷ None ∷ None ∷ None ∷ []
 unfolding compute_all
 readings r n ms bytes = refl
 
 pub readings_of_takes : (r n ms : ℕ) (bytes : List ℕ)
     → map taking_of (some_calls r n ms bytes)
-    ≡ some ms ∷ some ms ∷ none ∷ none ∷ none ∷ none ∷ none ∷ none ∷ none ∷ none ∷ none ∷ none ∷ []
+    ≡ Some ms ∷ Some ms ∷ None ∷ None ∷ None ∷ None ∷ None ∷ None ∷ None ∷ None ∷ None ∷ None ∷ []
 unfolding compute_all compute_steady
 readings_of_takes r n ms bytes = refl
 
@@ -57,10 +58,10 @@ pub record Seen : Type 0 where
 
 unfoldable pub asked_after : List ℕ → List ℕ → List Given → Asking → Seen
 asked_after st start calls a = record {
-  clock = clock_since reading_of 0 none start calls;
-  judge_says = reply st (words_after start calls) (On 0 (Ticket judged a));
-  take_says = reply st (words_after start calls) (On 0 (Ticket taken a));
-  take_batch_says = reply st (words_after start calls) (On 0 (Ticket taken_batch a));
+  clock = clock_since reading_of 0 None start calls;
+  judge_says = reply st (words_after start calls) (On 0 (Ticket Judged a));
+  take_says = reply st (words_after start calls) (On 0 (Ticket Taken a));
+  take_batch_says = reply st (words_after start calls) (On 0 (Ticket TakenBatch a));
 }
 
 abbrev steady_at : ℕ → Clock
@@ -68,13 +69,13 @@ steady_at ms = record { last = ms; never_fell = true; undisturbed = true }
 
 -- the clock was so, and both say what judge says; or judge says New, and both say Late
 abbrev all_new : Clock → Seen
-all_new c = record { clock = some c; judge_says = Said New; take_says = Said New; take_batch_says = Said New }
+all_new c = record { clock = Some c; judge_says = Said New; take_says = Said New; take_batch_says = Said New }
 
 abbrev late_though_new : Clock → Seen
-late_though_new c = record { clock = some c; judge_says = Said New; take_says = Said Late; take_batch_says = Said Late }
+late_though_new c = record { clock = Some c; judge_says = Said New; take_says = Said Late; take_batch_says = Said Late }
 
 abbrev ask : ℕ → ℕ → Call
-ask fp ms = On 0 (Ticket taken (about 1 fp ms))
+ask fp ms = On 0 (Ticket Taken (about 1 fp ms))
 
 unfoldable compute_cases : ℕ
 unfolding compute_all compute_steady clock_among asked_after
@@ -85,17 +86,17 @@ compute_cases = 0
 abbrev steady_list : List Given
 steady_list =
     given (open_at 4) ∷ given (ask 3 20) ∷ given (ask 4 2) ∷ given (open_at 4) ∷ given (ask 7 6) ∷ given (ask 8 6)
-    ∷ record { settings = []; call = ask 9 1 } ∷ given (On 0 (Ticket taken (about 0 9 1))) ∷ given (Expire 2) ∷ given (On 0 (Sweep 7)) ∷ given (ask 9 8) ∷ []
+    ∷ record { settings = []; call = ask 9 1 } ∷ given (On 0 (Ticket Taken (about 0 9 1))) ∷ given (Expire 2) ∷ given (On 0 (Sweep 7)) ∷ given (ask 9 8) ∷ []
 
 pub met_and_new : asked_after settings words steady_list (about 1 10 8) ≡ all_new (steady_at 8)
 unfolding compute_cases
 met_and_new = refl
 
-clock_met : clock_since reading_of 0 none words steady_list ≡ some (steady_at 8)
+clock_met : clock_since reading_of 0 None words steady_list ≡ Some (steady_at 8)
 unfolding asked_after
 clock_met = ap (λ (x : Seen). x.clock) met_and_new
 
-judged_met : reply settings (words_after words steady_list) (On 0 (Ticket judged (about 1 10 8))) ≡ Said New
+judged_met : reply settings (words_after words steady_list) (On 0 (Ticket Judged (about 1 10 8))) ≡ Said New
 unfolding asked_after
 judged_met = ap (λ (x : Seen). x.judge_says) met_and_new
 
@@ -116,10 +117,10 @@ after_a_pause = refl
 -- the readings of takes are enough: a sweep far ahead, and then a judge and a sweep whose readings fall, take nothing from the promise
 abbrev wandering_list : List Given
 wandering_list =
-    given (open_at 4) ∷ given (ask 7 6) ∷ given (On 0 (Sweep 40)) ∷ given (On 0 (Ticket judged (about 1 8 2))) ∷ given (On 0 (Sweep 3)) ∷ []
+    given (open_at 4) ∷ given (ask 7 6) ∷ given (On 0 (Sweep 40)) ∷ given (On 0 (Ticket Judged (about 1 8 2))) ∷ given (On 0 (Sweep 3)) ∷ []
 
 pub takes_steady : (asked_after settings words wandering_list (about 1 9 8) ≡ all_new (record { last = 3; never_fell = false; undisturbed = true }))
-    × (clock_since taking_of 0 none words wandering_list ≡ some (steady_at 6))
+    × (clock_since taking_of 0 None words wandering_list ≡ Some (steady_at 6))
 unfolding compute_cases
 takes_steady = (refl, refl)
 
@@ -185,19 +186,19 @@ given_two c = record { settings = two_registers; call = c }
 
 abbrev beside_list : List Given
 beside_list =
-    given_two (open_at 8) ∷ given_two (ask 7 6) ∷ given_two (On 1 (Ticket taken (about 1 7 100))) ∷ given_two (On 1 (Ticket taken (about 1 8 3)))
+    given_two (open_at 8) ∷ given_two (ask 7 6) ∷ given_two (On 1 (Ticket Taken (about 1 7 100))) ∷ given_two (On 1 (Ticket Taken (about 1 8 3)))
     ∷ given_two (On 1 (Restore (flat word_bytes ring_ahead))) ∷ []
 
 pub fallen_beside : (asked_after two_registers two_words beside_list (about 1 9 8) ≡ all_new (steady_at 6))
-    × (clock_since reading_of 1 none two_words beside_list ≡ some (record { last = 3; never_fell = false; undisturbed = false }))
+    × (clock_since reading_of 1 None two_words beside_list ≡ Some (record { last = 3; never_fell = false; undisturbed = false }))
 unfolding compute_cases
 fallen_beside = (refl, refl)
 
 -- ---- among events: what stands aside leaves the clock, and words that are put in place of these end it
-pub clock_aside : clock_among reading_of 0 none words (Calls (given (open_at 4) ∷ []) ∷ Aside closed_words ∷ []) ≡ some (steady_at 0)
+pub clock_aside : clock_among reading_of 0 None words (Calls (given (open_at 4) ∷ []) ∷ Aside closed_words ∷ []) ≡ Some (steady_at 0)
 unfolding compute_cases
 clock_aside = refl
 
-pub clock_ended : clock_among reading_of 0 none words (Calls (given (open_at 4) ∷ []) ∷ Replaces opened_words ∷ []) ≡ none
+pub clock_ended : clock_among reading_of 0 None words (Calls (given (open_at 4) ∷ []) ∷ Replaces opened_words ∷ []) ≡ None
 unfolding compute_cases
 clock_ended = refl

@@ -6,13 +6,14 @@ use lib.ListN.{replicate}
 use Rattle.runs.specs.Chunks.{flat}
 use Rattle.model.specs.declared.Class.TheVariants.{Peers}
 use Rattle.model.specs.declared.Deliverer.TheVariants.{Feeder, Peer, Restored}
+use Rattle.model.specs.declared.Manner.TheVariants.{Taken}
 use Rattle.model.specs.Answer.{Refused, Viewed}
 use Rattle.model.specs.Settings.{settings_of}
 use Rattle.model.specs.Register.{generation_at}
 use Rattle.model.specs.Dump.{word_bytes}
 use Rattle.model.specs.RawViews.{deliverer_view, register_view}
 use Rattle.model.specs.Words.{State}
-use Rattle.model.specs.Calls.{taken, Ticket, Sweep, Restore, ViewRegister, Call, On, ViewDeliverer, register_at, opened}
+use Rattle.model.specs.Calls.{Ticket, Sweep, Restore, ViewRegister, Call, On, ViewDeliverer, register_at, opened}
 use Rattle.model.specs.View.{left_by}
 use Rattle.model.specs.Once.{Answered, moments}
 use Rattle.model.specs.SameAnswers.{served, state_after}
@@ -50,7 +51,7 @@ abbrev wide_settings : List ℕ
 wide_settings = 1 ∷ 8 ∷ 16 ∷ 1 ∷ 1 ∷ 10_000 ∷ 2_000 ∷ 20_000 ∷ 2_000 ∷ 60_000 ∷ 8 ∷ replicate 18 0
 
 abbrev taken_at : ℕ → ℕ → Call
-taken_at fp stamp = On 0 (Ticket taken (record { fp = fp; stamp = stamp; ms = 5; flag = 1; kind = 0; number = 1 }))
+taken_at fp stamp = On 0 (Ticket Taken (record { fp = fp; stamp = stamp; ms = 5; flag = 1; kind = 0; number = 1 }))
 
 abbrev viewed_wide : List Call → List ℕ
 viewed_wide calls = register_view (register_at 0 (state_after wide_settings (opened (settings_of wide_settings) [] []) (open_ample ∷ calls)))
@@ -102,7 +103,7 @@ restored_is_no_peer = (refl, refl)
 abbrev view_into : ℕ → ℕ → Call
 view_into r n = On r (ViewRegister (replicate n 0))
 
-pub short_and_enough : moments (left_by opened_words (given (ask taken 1 7 6)))
+pub short_and_enough : moments (left_by opened_words (given (ask Taken 1 7 6)))
     (given (view_into 0 3) ∷ given (view_into 0 4) ∷ given (view_into 1 3) ∷ given (ViewDeliverer 0 1 (replicate 2 0)) ∷ given (ViewDeliverer 0 1 (replicate 3 0))
     ∷ given (ViewDeliverer 4 1 []) ∷ [])
     ≡ Answered (view_into 0 3) (Refused 8) ∷ Answered (view_into 0 4) (Viewed 4) ∷ Answered (view_into 1 3) (Refused 4)

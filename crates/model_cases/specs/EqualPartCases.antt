@@ -1,8 +1,8 @@
 -- The conditions of Equal part can be met: two lists of calls on words of any content, here all 5, and the party that asks after each.
 -- In the first three parties stand above T, a restored deliverer among them, and a restore that was Partly and a limit change to the same
 -- five values lie between. In the second the position of the ticket's bucket is another bucket's.
-use Rattle.std.specs.Prelude.{ℕ, false, List, [], ◌∷◌, ◌++◌, replicate}
-use Rattle.std.proofs.Math.Option.{Option, none, some}
+use Rattle.std.specs.Prelude.{ℕ, false, Option, Some, None, List, [], ◌∷◌, ◌++◌, replicate}
+use Rattle.model.specs.declared.Manner.TheVariants.{Taken}
 use Rattle.model.specs.declared.Verdict.{Verdict}
 use Rattle.model.specs.declared.Verdict.TheVariants.{New, Late}
 use Rattle.model.specs.Answer.{Answer}
@@ -16,7 +16,7 @@ use Rattle.model.specs.BookWords.{read_pairs, pairs_sound, place_sound, used_pla
 use Rattle.model.specs.RegisterWords.{heading_sound}
 use Rattle.model.specs.GenerationWords.{reached_from, generation_sound}
 use Rattle.model.specs.Words.{front_sound}
-use Rattle.model.specs.Calls.{Asking, Ticket, taken, Restore, Call, Open, On, Expire, SetLimits, ClassTotals, opened}
+use Rattle.model.specs.Calls.{Asking, Ticket, Restore, Call, Open, On, Expire, SetLimits, ClassTotals, opened}
 use Rattle.model.specs.View.{Given, answered, left_by}
 use Rattle.model.specs.EqualPart.{Since, since_opening}
 
@@ -39,7 +39,7 @@ abbrev pub ticket : ℕ → ℕ → ℕ → Asking
 ticket id fp ms = record { fp = fp; stamp = ms; ms = ms; flag = 1; kind = 0; number = id }
 
 abbrev pub takes : Asking → Call
-takes a = On 0 (Ticket taken a)
+takes a = On 0 (Ticket Taken a)
 
 -- a dump with one generation, in class 0
 abbrev pub one_generation : ℕ → ℕ → List ℕ → List ℕ
@@ -85,11 +85,11 @@ heard_of_three =
 
 -- what the rules yield since the opening
 abbrev pub found : Option Since → Since
-found none = record { settings = settings_of settings; state = opened (settings_of settings) nine []; unchanged = false }
-found (some x) = x
+found None = record { settings = settings_of settings; state = opened (settings_of settings) nine []; unchanged = false }
+found (Some x) = x
 
 unfoldable pub yields : Case → Since
-yields c = found (since_opening none start c.calls)
+yields c = found (since_opening None start c.calls)
 
 -- all that words are tested, read and written by, for a theorem that computes
 unfoldable pub compute_words : ℕ

@@ -2,14 +2,15 @@
 -- which both classes hold entries already, a restored deliverer's among them.
 use Rattle.std.specs.Prelude.{ℕ, ◌+◌, List, [], ◌∷◌, replicate}
 use Rattle.runs.specs.Chunks.{flat}
+use Rattle.model.specs.declared.Manner.TheVariants.{Taken}
 use Rattle.model.specs.Settings.{settings_of, words_needed}
 use Rattle.model.specs.Dump.{word_bytes}
-use Rattle.model.specs.Calls.{Ticket, taken, Sweep, DumpTo, Restore, Call, Open, On, Close, after}
+use Rattle.model.specs.Calls.{Ticket, Sweep, DumpTo, Restore, Call, Open, On, Close, after}
 use Rattle.model.specs.View.{Given, words_after}
 
 -- kind 0 is a Feeder, 1 a Peer; stamped at the reading
 abbrev pub takes : ℕ → ℕ → ℕ → ℕ → ℕ → Call
-takes r kind id fp ms = On r (Ticket taken (record { fp = fp; stamp = ms; ms = ms; flag = 1; kind = kind; number = id }))
+takes r kind id fp ms = On r (Ticket Taken (record { fp = fp; stamp = ms; ms = ms; flag = 1; kind = kind; number = id }))
 
 abbrev pub brings : List ℕ → Call → Given
 brings settings call = record { settings = settings; call = call }

@@ -63,7 +63,8 @@ all_listed s n i four few l h = let e : length (take n s.usable) ≡ n = length-
 
 -- so all of them are in bounds exactly where, of the four, each that is there is
 fit_each : (n : ℕ) (us : List Usable) → n ≤ 4 → length us ≡ 4 → list_all usable_fit (take n us)
-    ≡ ((leb n 0 || usable_fit (get_or us 0 no_usable)) && ((leb n 1 || usable_fit (get_or us 1 no_usable)) && ((leb n 2 || usable_fit (get_or us 2 no_usable)) && (leb n 3 || usable_fit (get_or us 3 no_usable)))))
+    ≡ ((leb n 0 || usable_fit (get_or us 0 no_usable)) && ((leb n 1 || usable_fit (get_or us 1 no_usable))
+    && ((leb n 2 || usable_fit (get_or us 2 no_usable)) && (leb n 3 || usable_fit (get_or us 3 no_usable)))))
 fit_each zero (a ∷ b ∷ c ∷ d ∷ []) h l = refl
 fit_each (suc zero) (a ∷ b ∷ c ∷ d ∷ []) h l = refl
 fit_each (suc (suc zero)) (a ∷ b ∷ c ∷ d ∷ []) h l = refl

@@ -1,7 +1,7 @@
 // Settings and limits: read from the words that a host hands in, tested against their bounds, and the words that they need.
 ghost use Rattle.std.specs.List.{list_all};
-ghost use Rattle.std.specs.Prelude.{◌≡◌, true, cond, ◌<◌, ◌≤◌, length};
-ghost use Rattle.model.specs.Settings.{usable_of as usable_from, usable_below as usable_read, no_usable as no_settings, settings_of as settings_in, limits_of as limits_in, usable_at, power_of_two, window_fit as window_within, usable_fit as usable_within, shares_fit as shares_within, limits_fit as limits_within, settings_fit as settings_within, fit_at, register_words, words_for, book_words as places_words, words_needed as needed};
+ghost use Rattle.std.specs.Prelude.{◌≡◌, true, ◌<◌, ◌≤◌, length};
+ghost use Rattle.model.specs.Settings.{usable_of as usable_from, usable_below as usable_read, no_usable as no_settings, settings_of as settings_in, limits_of as limits_in, usable_at, power_of_two, window_fit as window_within, usable_fit as usable_within, shares_fit as shares_within, limits_fit as limits_within, settings_fit as settings_within, register_words, book_words as places_words, words_needed as needed};
 ghost use Rattle.model.specs.Most.{rings_most, book_most};
 
 use crate::{layout, spans, starts};
@@ -101,7 +101,7 @@ pub fn limits_of(ls: &[u64]) -> Limits
     }
 }
 
-// A power of two from 2 to 1,024.
+// A power of two from 2 to 1,024, by its ten values, as the rules list them.
 #[tactic(auto, unfolding(model::specs::Settings::power_of_two))]
 pub fn is_power_of_two(n: u64) -> bool
     ensures { result ≡ power_of_two n }
@@ -184,7 +184,7 @@ fn book_words(b: Shares) -> u64
     3 * b.places * starts::place_width(b) as u64
 }
 
-// The words that settings in bounds need, for whoever has tested them.
+// The words that settings in bounds need.
 #[tactic(auto, using(crate::proofs::Needed::few_registers, crate::proofs::Needed::rings_none, model::proofs::Bounds::fit_shares))]
 pub fn words_in_bounds(s: Settings) -> u64
     requires { settings_within s ≡ true }
@@ -195,15 +195,4 @@ pub fn words_in_bounds(s: Settings) -> u64
         rings += register_words(*u);
     }
     rings + book_words(s.shares) + 128
-}
-
-// The words that any settings need: 0 where they are out of bounds, since no words serve those.
-pub fn words_needed(s: Settings) -> u64
-    ensures { result ≡ cond (settings_within s) (needed s) 0 }
-{
-    if settings_fit(s) {
-        words_in_bounds(s)
-    } else {
-        0
-    }
 }

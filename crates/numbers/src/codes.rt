@@ -1,19 +1,10 @@
 // The codes that a host hands in, tested and read, and the numbers that answers go out as.
 ghost use Rattle.std.specs.Prelude.{◌≡◌};
-ghost use Rattle.model.specs.Class.{class_number as number_of_class, class_of as class_for, deliverer_fits, deliverer_of};
-ghost use Rattle.model.specs.Codes.{flag_fits, flag_of, start_fits as listed_start, start_of as start_with, verdict_number as number_of_verdict, same_verdict as one_verdict, reason_number as number_of_reason, reason_class as class_of_reason, reason_verdict as verdict_of_reason};
+ghost use Rattle.model.specs.Class.{class_of as class_for};
+ghost use Rattle.model.specs.Codes.{flag_fits, flag_of, start_fits, start_of, reason_number as number_of_reason, reason_class as class_of_reason, reason_verdict as verdict_of_reason};
 ghost use Rattle.model.specs.Listed.{listed};
 
 use model::{Class, Deliverer, Reason, Refusal, Start, Verdict};
-
-// The kinds of deliverers.
-pub const FEEDER: u64 = 0;
-
-pub const PEER: u64 = 1;
-
-pub const RELAY: u64 = 2;
-
-pub const RESTORED: u64 = 3;
 
 // A flag that a call brings.
 pub fn flag(code: u64) -> Result<bool, Refusal>
@@ -24,12 +15,6 @@ pub fn flag(code: u64) -> Result<bool, Refusal>
         1 => Ok(true),
         _ => Err(Refusal::Unfit),
     }
-}
-
-pub fn class_number(class: Class) -> u64
-    ensures { result ≡ number_of_class class }
-{
-    u64::from(class)
 }
 
 #[tactic(auto, unfolding(model::specs::Class::class_of))]
@@ -44,48 +29,17 @@ pub fn class_of(who: Deliverer) -> Class
     }
 }
 
-// A deliverer that a call brings. The number of a Relay is not read.
-#[tactic(auto, unfolding(model::specs::Class::deliverer_fits, model::specs::Class::deliverer_of))]
-pub fn deliverer(kind: u64, number: u64) -> Result<Deliverer, Refusal>
-    ensures { result ≡ listed (deliverer_fits kind number) (deliverer_of kind number) }
-{
-    match kind {
-        FEEDER => Ok(Deliverer::Feeder(number)),
-        PEER => Ok(Deliverer::Peer(number)),
-        RELAY => Ok(Deliverer::Relay),
-        RESTORED => Ok(Deliverer::Restored(Class::try_from(number)?)),
-        _ => Err(Refusal::Unfit),
-    }
-}
-
-pub fn start_fits(code: u64) -> bool
-    ensures { result ≡ listed_start code }
-{
-    code <= 2
-}
-
+// A start that an opening brings. The floor is read for At alone.
 #[tactic(auto, unfolding(model::specs::Codes::start_of))]
-pub fn start_of(code: u64, floor: u64) -> Start
-    ensures { result ≡ start_with code floor }
+pub fn start(code: u64, floor: u64) -> Result<Start, Refusal>
+    ensures { result ≡ listed (start_fits code) (start_of code floor) }
 {
     match code {
-        0 => Start::Empty,
-        1 => Start::Fallback,
-        _ => Start::At(floor),
+        0 => Ok(Start::Empty),
+        1 => Ok(Start::Fallback),
+        2 => Ok(Start::At(floor)),
+        _ => Err(Refusal::Unfit),
     }
-}
-
-pub fn verdict_number(verdict: Verdict) -> u64
-    ensures { result ≡ number_of_verdict verdict }
-{
-    u64::from(verdict)
-}
-
-#[tactic(auto, unfolding(model::specs::Codes::verdict_number))]
-pub fn same_verdict(a: Verdict, b: Verdict) -> bool
-    ensures { result ≡ one_verdict a b }
-{
-    a == b
 }
 
 #[tactic(auto, unfolding(model::specs::Codes::reason_number))]
@@ -118,7 +72,7 @@ pub fn reason_class(reason: Reason) -> u64
     ensures { result ≡ class_of_reason reason }
 {
     if let Reason::Held(class) = reason {
-        class_number(class)
+        u64::from(class)
     } else {
         0
     }

@@ -6,7 +6,7 @@ ghost use Rattle.model.specs.Words.{class_width as class_words, class_start as c
 ghost use Rattle.model.specs.Most.{ring_most, register_most, place_most, class_most};
 ghost use Rattle.numbers.specs.RegisterAt.{RegisterAt};
 
-use crate::{bounds, codes, layout, spans};
+use crate::{bounds, layout, spans};
 use model::{Class, Settings, Shares, Usable};
 
 // A register's settings, and where its words lie.
@@ -54,7 +54,7 @@ pub fn class_start(s: Settings, class: Class) -> usize
     requires { settings_fit s ≡ true }
     ensures { (result ≡ class_from s class) × (result + class_words s.shares ≤ words_needed s) }
 {
-    layout::FRONT + codes::class_number(class) as usize * class_width(s.shares)
+    layout::FRONT + u64::from(class) as usize * class_width(s.shares)
 }
 
 // The words of one class's ring.

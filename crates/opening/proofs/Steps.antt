@@ -14,7 +14,7 @@ use Rattle.model.specs.Words.{register_start}
 use Rattle.opening.specs.Opened.{heading_at, start_at, with_heading, with_headings}
 
 -- ---- write_register
-pub register_words : (s : Settings) (starts : List ℕ) (r a : ℕ) (start : Start) (ws own : List ℕ)
+pub register_words : (s : Settings) (starts : List Start) (r a : ℕ) (start : Start) (ws own : List ℕ)
     → a ≡ register_start s r → start ≡ start_at starts r → own ≡ encode_heading (usable_at s r) (heading_at start)
     → put_mid a (a + 24 - a) ws own ≡ with_heading s starts r ws
 unfolding with_heading
@@ -23,13 +23,13 @@ register_words s starts r a start ws own e g h =
     rw (k, h, g, e)
 
 -- ---- write_registers: the registers from r on are still to be written
-pub record Headed (s : Settings) (starts ws₀ ws : List ℕ) (r : ℕ) : Type 0 where
+pub record Headed (s : Settings) (starts : List Start) (ws₀ ws : List ℕ) (r : ℕ) : Type 0 where
   pub within : r ≤ s.registers
   pub few : s.registers ≤ 4
   pub long : length ws ≡ words_needed s
   pub rest : with_headings s starts r (s.registers - r) ws ≡ with_headings s starts 0 s.registers ws₀
 
-module _ (s : Settings) (starts ws₀ : List ℕ) where
+module _ (s : Settings) (starts : List Start) (ws₀ : List ℕ) where
   pub headed_none : s.registers ≤ 4 → length ws₀ ≡ words_needed s → Headed s starts ws₀ ws₀ 0
   headed_none few long = record { within = omega arith; few = few; long = long; rest = let e : s.registers - 0 ≡ s.registers = omega arith in rw e }
 

@@ -8,7 +8,7 @@ ghost use Rattle.model.specs.RegisterWords.{floor_flag, floor_word, flag_word, e
 ghost use Rattle.opening.specs.Opened.{opened_with, start_floor, start_pending, heading_at, front_at, with_heading, with_headings};
 
 use model::{Limits, Settings, Start, Usable};
-use numbers::{codes, layout};
+use numbers::layout;
 
 // The front of the words: the kept settings of the book, and the limits. The book is open.
 fn write_front(front: &mut [u64], s: Settings, limits: Limits)
@@ -68,19 +68,18 @@ fn write_heading(own: &mut [u64], u: Usable, start: Start)
 
 // The own words of register r, at its place. What was there is written over, and nothing else.
 #[tactic(auto, using(crate::proofs::Steps::register_words))]
-fn write_register(run: &mut [u64], s: Settings, starts: &[u64], r: usize)
-    requires { (settings_fit s ≡ true) × (length run.old ≡ words_needed s) × (length starts.now ≡ 8) × (r < s.registers) × (r < 4) }
+fn write_register(run: &mut [u64], s: Settings, starts: &[Start], r: usize)
+    requires { (settings_fit s ≡ true) × (length run.old ≡ words_needed s) × (length starts.now ≡ 4) × (r < s.registers) × (r < 4) }
     ensures { run.new ≡ with_heading s starts.now r run.old }
 {
     let a = numbers::starts::register_start(s, r);
-    let start = codes::start_of(starts[2 * r], starts[2 * r + 1]);
-    write_heading(&mut run[a..a + layout::HEADING], s.usable[r], start);
+    write_heading(&mut run[a..a + layout::HEADING], s.usable[r], starts[r]);
 }
 
 // The own words of every register.
 #[tactic(auto, using(crate::proofs::Steps::headed_none, crate::proofs::Steps::headed_more, crate::proofs::Steps::headed_all, numbers::proofs::Needed::few_registers))]
-fn write_registers(run: &mut [u64], s: Settings, starts: &[u64])
-    requires { (settings_fit s ≡ true) × (length run.old ≡ words_needed s) × (length starts.now ≡ 8) }
+fn write_registers(run: &mut [u64], s: Settings, starts: &[Start])
+    requires { (settings_fit s ≡ true) × (length run.old ≡ words_needed s) × (length starts.now ≡ 4) }
     ensures { run.new ≡ with_headings s starts.now 0 s.registers run.old }
 {
     for r in 0..s.registers as usize {
@@ -90,8 +89,8 @@ fn write_registers(run: &mut [u64], s: Settings, starts: &[u64])
 
 // All the words that the settings need: an empty book with these limits, and empty registers with these starts.
 #[tactic(auto, using(crate::proofs::Laid::front_within))]
-pub fn open(run: &mut [u64], s: Settings, limits: Limits, starts: &[u64])
-    requires { (settings_fit s ≡ true) × (length run.old ≡ words_needed s) × (length starts.now ≡ 8) }
+pub fn open(run: &mut [u64], s: Settings, limits: Limits, starts: &[Start])
+    requires { (settings_fit s ≡ true) × (length run.old ≡ words_needed s) × (length starts.now ≡ 4) }
     ensures { run.new ≡ (state_form s).enc (opened_with s limits starts.now) }
 {
     run.fill(0);

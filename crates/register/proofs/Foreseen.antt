@@ -7,7 +7,6 @@ use mathlib.Core.Path.{◌≡◌, refl, sym, ap, subst, ◌∙◌}
 use mathlib.Core.Bool.{Bool, true, false, cond, not, ◌||◌}
 use mathlib.Core.Logic.{◌⊎◌, inl, inr}
 use mathlib.Core.List.{List, [], ◌∷◌}
-use Rattle.std.proofs.Math.Option.{Option as Floored, none, some}
 use lib.Dec.{leb, ltb}
 use lib.ListN.{get_or, drop, drop_of_length-le}
 use lib.Seq.{drop-cons}
@@ -22,62 +21,34 @@ use Rattle.model.specs.declared.Room.{Room}
 use Rattle.model.specs.declared.Usable.{Usable}
 use Rattle.model.specs.declared.Window.{Window}
 use Rattle.model.specs.First.{first_of}
-use Rattle.model.specs.Numbers.{between, raise, under}
+use Rattle.model.specs.Numbers.{between, under}
 use Rattle.model.specs.Settings.{ring_of, power_of_two, window_fit, usable_fit}
 use Rattle.model.specs.Class.{pick, each}
 use Rattle.model.specs.Generation.{as_read}
 use Rattle.model.specs.Register.{Ring, Register, visits, sweep_ring, swept_to, through_of, sweep_rings, sweep}
 use Rattle.model.specs.RegisterWords.{register_form}
-use Rattle.model.specs.Optional.{optional}
 use Rattle.model.specs.Judge.{Ask, bucket_of, window_for, in_window, front_past}
 use Rattle.model.specs.Reason.{first_rule}
 use Rattle.model.proofs.Growth.{exponent}
 use Rattle.std.specs.Prelude.{Option, Some, None}
 use Rattle.std.specs.Ordering.{nat_cmp, ord_max}
 use Rattle.std.specs.Option.{MatchOption, option_cmp}
-use Rattle.generation.specs.Rules.{went}
 use Rattle.ring.proofs.Sweeping.{newest_is}
-use Rattle.ring.specs.declared.Buckets.{Buckets}
 use Rattle.ring.specs.Ring.{RingReads}
-use Rattle.ring.specs.Sweep.{swept_ring, swept_says, newest_of, raised_by, Visits, holds_after, room_after}
+use Rattle.ring.specs.Sweep.{swept_ring, swept_says, raised_by, Visits, holds_after, room_after}
 use Rattle.register.specs.declared.extents.RingExtent.{RingExtent}
 use Rattle.register.specs.declared.peeking.Seen.{Seen}
-use Rattle.register.specs.Seen.{floor_of, seen_floor, Sees, seen_raised, seen_raised_by, newest_of_class, seen_rings, seen_as, swept_from, seen_by}
+use Rattle.register.specs.Seen.{Sees, seen_raised_by, newest_of_class, seen_rings, seen_as, swept_from, seen_by}
 use Rattle.register.specs.Seen.{left_by, class_holds, holder_left, late_rule, judge_rule, room_left}
 use Rattle.register.specs.Words.{RegisterWords, RegisterReads, RingAt}
 use Rattle.register.proofs.InRings.{ring_reads}
 use Rattle.register.proofs.Sweeps.{all_three, idle, back, on}
 
 -- ---- the floor that was seen: whether a stamp is at or below it
-pub under_seen : (f : Option ℕ) (stamp : ℕ) (r : Bool) → MatchOption f (r ≡ false) (λ x. r ≡ leb stamp x) → r ≡ under stamp (floor_of f)
+pub under_seen : (f : Option ℕ) (stamp : ℕ) (r : Bool) → MatchOption f (r ≡ false) (λ x. r ≡ leb stamp x) → r ≡ under stamp f
 unfolding under
 under_seen None stamp r h = h
 under_seen (Some x) stamp r h = h
-
--- raised by what would go it is the larger, and the floor that the rules raise
-raised_newest : (b : Buckets) (f d : Option ℕ)
-    → record { buckets = b; floor = newest_of f d } ≡ seen_raised_by d (record { buckets = b; floor = f })
-unfolding seen_raised under
-raised_newest b None None = refl
-raised_newest b (Some n) None = refl
-raised_newest b None (Some m) = refl
-raised_newest b (Some n) (Some m) =
-    let has : ℕ → Seen = λ k. record { buckets = b; floor = Some k } in
-    by_test (leb m n)
-    (λ e. let k : max n m ≡ n = let h = leb-true m n e in omega arith in rw e (ap has k))
-    (λ e. let k : max n m ≡ m = let h = leb-false m n e in omega arith in rw e (ap has k))
-
-raised_floor : (d : Option ℕ) (f : Floored ℕ) → newest_of (went f) d ≡ went (raised_by d f)
-unfolding raise
-raised_floor None none = refl
-raised_floor None (some n) = refl
-raised_floor (Some m) none = refl
-raised_floor (Some m) (some n) = refl
-
-raised_seen_by : (from through : ℕ) (d : Option ℕ) (f : Floored ℕ) → seen_raised_by d (seen_as from through f) ≡ seen_as from through (raised_by d f)
-raised_seen_by from through d f =
-    let b : Buckets = record { from = record { 0 = from }; through = record { 0 = through } } in
-    sym (raised_newest b (went f) d) ∙ ap (λ (x : Option ℕ). record { buckets = b; floor = x }) (raised_floor d f)
 
 -- ---- a class's ring, and the three
 module _ (u : Usable) (c : Class) (p : RingExtent) (l : RingAt u c p) where
@@ -111,9 +82,9 @@ module _ (u : Usable) (s : Seen) (ws : List ℕ) where
     unfolding raised_among
     raised_on h more next r e = record {
       left = λ reg ok is.
-          let q : next ≡ newest_of floor more = e ∙ newest_is floor more in
+          let q : next ≡ raised_by more floor = e ∙ newest_is floor more in
           let here = rw (drop-cons classes i Feeders h, ← r.says reg ok is) at (at.left reg ok is) in
-          rw (add-one, q, raised_newest s.buckets floor more) here;
+          rw (add-one, q) here;
     }
 
     pub raised_end : 3 ≤ i → RegisterReads u (seen_rings s) ws (record { buckets = s.buckets; floor = floor })
@@ -121,10 +92,6 @@ module _ (u : Usable) (s : Seen) (ws : List ℕ) where
     raised_end h = record { says = λ reg ok is. rw (drop_of_length-le classes {i = i} h) at (at.left reg ok is) }
 
 -- ---- what is seen at a reading
-is_went : (f : Floored ℕ) → optional f ≡ went f
-is_went none = refl
-is_went (some f) = refl
-
 module _ (u : Usable) (ms : ℕ) (reg : Register) where
   -- nothing is visited, and the floor stays
   unvisited : (reg.pending || leb (through_of u ms) reg.swept) ≡ true → seen_as (through_of u ms) (through_of u ms) reg.floor ≡ seen_by u ms reg
@@ -146,27 +113,16 @@ module _ (u : Usable) (ms : ℕ) (reg : Register) where
 rings_raise : (u : Usable) (from through : ℕ) (reg : Register)
     → seen_rings (seen_as from through reg.floor) reg ≡ seen_as from through (sweep_rings from through reg).floor
 unfolding seen_rings newest_of_class
-rings_raise u from through reg =
-    let f = swept_says from through reg.rings.of_feeders in
-    let p = swept_says from through reg.rings.of_peers in
-    let o = swept_says from through reg.rings.of_own in
-    rw (
-      raised_seen_by from through f reg.floor,
-      raised_seen_by from through p (raised_by f reg.floor),
-      raised_seen_by from through o (raised_by p (raised_by f reg.floor)),
-    )
-    (ap (λ (x : Register). seen_as from through x.floor) (all_three u from through reg))
+rings_raise u from through reg = ap (λ (x : Register). seen_as from through x.floor) (all_three u from through reg)
 
 module _ (u : Usable) (ms : ℕ) (ws : List ℕ) (through : ℕ) (e : through ≡ through_of u ms)
-    (floor : Option ℕ) (two : (v : Usable) → RegisterReads v (λ reg. optional reg.floor) ws floor) where
+    (floor : Option ℕ) (two : (v : Usable) → RegisterReads v (λ reg. reg.floor) ws floor) where
   -- the floor as its two words have it
   abbrev still : ℕ → Seen
-  still from = record { buckets = record { from = record { 0 = from }; through = record { 0 = through } }; floor = floor }
+  still from = seen_as from through floor
 
   still_is : (from : ℕ) (reg : Register) → (register_form u).Ok reg → ws ≡ (register_form u).enc reg → still from ≡ seen_as from through reg.floor
-  still_is from reg ok is =
-      let a = (two u).says reg ok is ∙ is_went reg.floor in
-      λ i. record { buckets = record { from = record { 0 = from }; through = record { 0 = through } }; floor = a i }
+  still_is from reg ok is = ap (λ (f : Option ℕ). seen_as from through f) ((two u).says reg ok is)
 
   module _ (pending : Bool) (p : (v : Usable) → RegisterReads v (λ reg. reg.pending) ws pending) where
     -- without a visit
@@ -196,7 +152,7 @@ module _ (u : Usable) (ms : ℕ) (ws : List ℕ) (through : ℕ) (e : through �
 
 -- it visits no more buckets than a ring has positions
 module _ (u : Usable) (ms : ℕ) where
-  visits_few : (reg : Register) → Visits (ring_of u) (seen_as (swept_from u (through_of u ms) reg) (through_of u ms) none).buckets
+  visits_few : (reg : Register) → Visits (ring_of u) (seen_as (swept_from u (through_of u ms) reg) (through_of u ms) None).buckets
   visits_few reg =
       by_test (reg.pending || leb (through_of u ms) reg.swept)
       (λ e. rw e (record { up = omega arith; few = omega arith }))
@@ -269,7 +225,7 @@ module _ (u : Usable) (s : Seen) (b fp : ℕ) (ws : List ℕ) where
       sought_on e = record { left = λ reg ok is. rw add-one (rw (drop-cons classes i Feeders h, sym (r.says reg ok is) ∙ e) at (at.left reg ok is)) }
 
 -- ---- the floor and the window
-module _ (u : Usable) (floor : Floored ℕ) (a : Ask) (low : Bool) (t : low ≡ under a.stamp floor) where
+module _ (u : Usable) (floor : Option ℕ) (a : Ask) (low : Bool) (t : low ≡ under a.stamp floor) where
   pub late_floor : low ≡ true → Floor ≡ late_rule u floor a
   unfolding late_rule first_rule first_of
   late_floor e = rw (sym t ∙ e)
@@ -309,7 +265,7 @@ by_holder None x = x
 
 held_first : (u : Usable) (s : Seen) (a : Ask) (reg : Register)
     → judge_rule u s a reg ≡ cond reg.pending Pending (cond (not a.judging) Flag
-    (by_holder (holder_left s (bucket_of u a.stamp) (as_read a.fp) reg) (late_rule u (seen_floor s) a)))
+    (by_holder (holder_left s (bucket_of u a.stamp) (as_read a.fp) reg) (late_rule u s.floor a)))
 unfolding judge_rule first_rule first_of left_by holder_left class_holds holds_after late_rule by_holder
 held_first u s a reg =
     let b = bucket_of u a.stamp in
@@ -328,40 +284,35 @@ module _ (u : Usable) (s : Seen) (a : Ask) (ws : List ℕ) (pending : Bool) (p :
 
     module _ (judging : not a.judging ≡ false) (b fp : ℕ) (bucket : b ≡ bucket_of u a.stamp) (print : fp ≡ as_read a.fp) (h : Option Class)
         (held : RegisterReads u (holder_left s b fp) ws h) where
-      holder_is : (reg : Register) → (register_form u).Ok reg → ws ≡ (register_form u).enc reg → by_holder h (late_rule u (seen_floor s) a) ≡ judge_rule u s a reg
+      holder_is : (reg : Register) → (register_form u).Ok reg → ws ≡ (register_form u).enc reg → by_holder h (late_rule u s.floor a) ≡ judge_rule u s a reg
       holder_is reg ok is =
           let q : h ≡ holder_left s (bucket_of u a.stamp) (as_read a.fp) reg = rw (← bucket, ← print) (held.says reg ok is) in
-          ap (λ (x : Option Class). by_holder x (late_rule u (seen_floor s) a)) q ∙ sym (held_first u s a reg ∙ rw (sym ((p u).says reg ok is) ∙ begun, judging))
+          ap (λ (x : Option Class). by_holder x (late_rule u s.floor a)) q ∙ sym (held_first u s a reg ∙ rw (sym ((p u).says reg ok is) ∙ begun, judging))
 
       pub rule_held : (c : Class) → h ≡ Some c → RegisterReads u (judge_rule u s a) ws (Held c)
       unfolding by_holder
       rule_held c e = record { says = λ reg ok is. rw e at (holder_is reg ok is) }
 
-      pub rule_late : (r : Reason) → h ≡ None → r ≡ late_rule u (seen_floor s) a → RegisterReads u (judge_rule u s a) ws r
+      pub rule_late : (r : Reason) → h ≡ None → r ≡ late_rule u s.floor a → RegisterReads u (judge_rule u s a) ws r
       unfolding by_holder
       rule_late r e q = record { says = λ reg ok is. q ∙ (rw e at (holder_is reg ok is)) }
 
 -- ---- what was seen of a register leaves it as its sweep does
-floor_seen : (from through : ℕ) (f : Floored ℕ) → seen_floor (seen_as from through f) ≡ f
-floor_seen from through none = refl
-floor_seen from through (some f) = refl
-
 none_visited : (through : ℕ) (ring : Ring) → swept_ring through through ring ≡ ring
 unfolding sweep_ring visits
 none_visited through ring =
     let z : through - through ≡ 0 = omega arith in
-    ap (λ (k : ℕ). (visits k through through (record { floor = none; ring = ring })).ring) z
+    ap (λ (k : ℕ). (visits k through through (record { floor = None; ring = ring })).ring) z
 
 -- a register as it was, swept up to another bucket
 kept : (through swept : ℕ) (reg : Register) → cond reg.pending reg.swept through ≡ swept
     → left_by (seen_as through through reg.floor) reg ≡ swept_to swept reg
 unfolding left_by
 kept through swept reg c =
-    let f = floor_seen through through reg.floor in
     let x = none_visited through reg.rings.of_feeders in
     let y = none_visited through reg.rings.of_peers in
     let z = none_visited through reg.rings.of_own in
-    λ i. record { swept = c i; floor = f i; pending = reg.pending; spare = reg.spare; rings = record { of_feeders = x i; of_peers = y i; of_own = z i } }
+    λ i. record { swept = c i; floor = reg.floor; pending = reg.pending; spare = reg.spare; rings = record { of_feeders = x i; of_peers = y i; of_own = z i } }
 
 -- and one whose rings are swept
 swept_left : (u : Usable) (from through : ℕ) (reg : Register) → reg.pending ≡ false
@@ -369,7 +320,7 @@ swept_left : (u : Usable) (from through : ℕ) (reg : Register) → reg.pending 
 unfolding left_by
 swept_left u from through reg p =
     let same = all_three u from through reg in
-    let f = floor_seen from through (sweep_rings from through reg).floor ∙ sym (ap (λ (x : Register). x.floor) same) in
+    let f = sym (ap (λ (x : Register). x.floor) same) in
     let c : cond reg.pending reg.swept through ≡ through = rw p in
     (λ i. record { swept = c i; floor = f i; pending = reg.pending; spare = reg.spare; rings = each (swept_ring from through) reg.rings }) ∙ same
 

@@ -2,7 +2,6 @@
 use Prim.Native.Nat.{ℕ, ◌-◌, max}
 use native.Mathlib.Omega.{arith}
 use mathlib.Core.Path.{◌≡◌, refl, ap}
-use Rattle.std.proofs.Math.Option.{Option as Floored, none, some}
 use mathlib.Core.List.{List}
 use lib.Dec.{eqb}
 use borrow.Author.Tests.{eqb-true}
@@ -23,7 +22,7 @@ use Rattle.model.specs.Dump.{drop_bucket, dropped_newest, failed}
 use Rattle.model.proofs.Bounds.{ring_positive}
 use Rattle.model.proofs.Growth.{ok_ways}
 use Rattle.model.proofs.RingsKept.{RingOk, from_form, to_form, swapped_ok, drop_ok, at_ok}
-use Rattle.std.specs.Prelude.{Option}
+use Rattle.std.specs.Prelude.{Option, Some, None}
 use Rattle.ring.specs.Ring.{RingTurns, drop_bucket_says}
 use Rattle.ring.specs.Sweep.{raised_by}
 use Rattle.register.specs.Rules.{raised_with, failed_at}
@@ -32,12 +31,12 @@ use Rattle.register.specs.Words.{RegisterWords, RegisterTurns, RingAt}
 use Rattle.register.proofs.InRings.{ring_turns, still_words}
 
 -- ---- a floor raised twice is raised to the larger of the two
-raise_both : (f : Floored ℕ) (n m : ℕ) → raise (raise f n) m ≡ raise f (max m n)
+raise_both : (f : Option ℕ) (n m : ℕ) → raise (raise f n) m ≡ raise f (max m n)
 unfolding raise
-raise_both none n m = let k : max n m ≡ max m n = omega arith in ap some k
-raise_both (some f) n m = let k : max (max f n) m ≡ max f (max m n) = omega arith in ap some k
+raise_both None n m = let k : max n m ≡ max m n = omega arith in ap Some k
+raise_both (Some f) n m = let k : max (max f n) m ≡ max f (max m n) = omega arith in ap Some k
 
-raise_zero : (f : Floored ℕ) (n w : ℕ) → w ≡ 0 → raise f n ≡ raise f (max n w)
+raise_zero : (f : Option ℕ) (n w : ℕ) → w ≡ 0 → raise f n ≡ raise f (max n w)
 raise_zero f n w z = let k : n ≡ max n w = omega arith in ap (raise f) k
 
 -- a generation that holds nothing has no newest stamp
@@ -47,7 +46,7 @@ held_none S n i g ok z = ok_ways S n i g ok (λ e zero. zero) (λ power some few
 -- ---- a generation that failed
 module _ (u : Usable) (c : Class) (b newest : ℕ) where
   -- by what went, and then to the dump's newest, is to the larger of both
-  both_raised : (f : Floored ℕ) (ring : Ring) → RingOk u ring
+  both_raised : (f : Option ℕ) (ring : Ring) → RingOk u ring
       → raise (raised_by (drop_bucket_says b ring) f) newest ≡ raise f (max newest (dropped_newest b ring))
   unfolding dropped_newest
   both_raised f ring ok =
@@ -75,7 +74,7 @@ module _ (u : Usable) (c : Class) (b newest : ℕ) where
       → raised newest (raised_with (drop_bucket_says b (pick c reg.rings)) (in_ring c (drop_bucket b) reg)) ≡ failed_at c b newest reg
   unfolding failed
   failed_is reg ok =
-      ap (λ (f : Floored ℕ). with_floor f (in_ring c (drop_bucket b) reg)) (both_raised reg.floor (pick c reg.rings) ((from_form u reg ok).rings c))
+      ap (λ (f : Option ℕ). with_floor f (in_ring c (drop_bucket b) reg)) (both_raised reg.floor (pick c reg.rings) ((from_form u reg ok).rings c))
 
   fail_turns : (ws mid past last : List ℕ) (d : Option ℕ)
       → RegisterTurns u (in_ring c (drop_bucket b)) (λ reg. drop_bucket_says b (pick c reg.rings)) ws mid d

@@ -4,51 +4,42 @@ use native.Mathlib.Omega.{arith}
 use mathlib.Core.Path.{◌≡◌, refl, sym, ap, ◌∙◌}
 use mathlib.Core.Bool.{Bool, true, false, cond, ◌&&◌}
 use mathlib.Core.List.{List}
-use Rattle.std.proofs.Math.Option.{Option as Floored, none, some}
 use lib.Dec.{leb, eqb}
 use lib.ListN.{set}
 use borrow.Author.Tests.{eq-eqb, ne_eqb, leb-true, leb-false}
 use Rattle.runs.proofs.Cases.{by_test, no}
 use Rattle.runs.specs.Turns.{silent}
-use Rattle.std.proofs.Common.{Some, None}
+use Rattle.std.proofs.Common.{Option, Some, None}
 use Rattle.model.specs.declared.Usable.{Usable}
 use Rattle.model.specs.Numbers.{raise, under}
 use Rattle.model.specs.Register.{Register, with_floor, raised, swept_to, published, begin}
 use Rattle.model.specs.RegisterWords.{floor_flag, floor_word, read_floor, read_heading, register_form}
 use Rattle.model.specs.Dump.{raised_to_dumped}
-use Rattle.model.specs.Optional.{optional}
 use Rattle.model.proofs.RegisterWords.{flag_read}
-use Rattle.std.specs.Prelude.{Option, Some, None}
 use Rattle.numbers.specs.Layout.{pending_at}
 use Rattle.register.specs.Rules.{raised_with, begin_says, swept_answer, floor_gone}
 use Rattle.register.specs.Heading.{published_in, swept_in, sweep_stored, floor_stored, floor_raised, floor_raised_by, floor_dumped, begun_in, begin_told}
 use Rattle.register.specs.Words.{RegisterReads, RegisterTurns}
 
 -- ---- a floor and its two words
-floor_back : (f : Floored ℕ) → read_floor (floor_flag f) (floor_word f) ≡ f
-floor_back none = refl
-floor_back (some f) = refl
+floor_back : (f : Option ℕ) → read_floor (floor_flag f) (floor_word f) ≡ f
+floor_back None = refl
+floor_back (Some f) = refl
 
 -- what the code answers of any two words
-pub floor_there : (flag floor : ℕ) → flag ≡ 1 → Some floor ≡ optional (read_floor flag floor)
-floor_there flag floor e = rw (eq-eqb flag 1 e)
-
-pub floor_missing : (flag floor : ℕ) → (flag ≡ 1 → ⊥) → None ≡ optional (read_floor flag floor)
-floor_missing flag floor n = rw (ne_eqb flag 1 n)
-
 pub under_words : (stamp flag floor : ℕ) → (eqb flag 1 && leb stamp floor) ≡ under stamp (read_floor flag floor)
 unfolding under
 under_words stamp flag floor = by_test (eqb flag 1) (λ e. rw e) (λ e. rw e)
 
-floor_stays : (stamp : ℕ) (f : Floored ℕ) → under stamp f ≡ true → f ≡ raise f stamp
+floor_stays : (stamp : ℕ) (f : Option ℕ) → under stamp f ≡ true → f ≡ raise f stamp
 unfolding under raise
-floor_stays stamp none t = no (cc)
-floor_stays stamp (some f) t = let h = leb-true stamp f t in let e : f ≡ max f stamp = omega arith in ap some e
+floor_stays stamp None t = no (cc)
+floor_stays stamp (Some f) t = let h = leb-true stamp f t in let e : f ≡ max f stamp = omega arith in ap Some e
 
-floor_moves : (stamp : ℕ) (f : Floored ℕ) → under stamp f ≡ false → some stamp ≡ raise f stamp
+floor_moves : (stamp : ℕ) (f : Option ℕ) → under stamp f ≡ false → Some stamp ≡ raise f stamp
 unfolding under raise
-floor_moves stamp none t = refl
-floor_moves stamp (some f) t = let h = leb-false stamp f t in let e : stamp ≡ max f stamp = omega arith in ap some e
+floor_moves stamp None t = refl
+floor_moves stamp (Some f) t = let h = leb-false stamp f t in let e : stamp ≡ max f stamp = omega arith in ap Some e
 
 -- ---- readers: the heading of a register's words is its own
 floor_read : (u : Usable) (reg : Register) (ws : List ℕ) → ws ≡ (register_form u).enc reg → (read_heading ws).floor ≡ reg.floor
@@ -62,7 +53,7 @@ module _ (u : Usable) (ws : List ℕ) where
   pending_reads = record { says = λ reg ok is. pending_read u reg ws is }
 
   -- whatever is told of the floor
-  pub floor_reads : {R : Type 0} (f : Floored ℕ → R) → RegisterReads u (λ reg. f reg.floor) ws (f (read_heading ws).floor)
+  pub floor_reads : {R : Type 0} (f : Option ℕ → R) → RegisterReads u (λ reg. f reg.floor) ws (f (read_heading ws).floor)
   floor_reads f = record { says = λ reg ok is. ap f (floor_read u reg ws is) }
 
   pub swept_reads : RegisterReads u (swept_answer u) ws (swept_in ws)
@@ -72,15 +63,15 @@ module _ (u : Usable) (ws : List ℕ) where
   published_reads = record { says = λ reg ok is. ap published_in is }
 
 -- ---- the floor raised
-with_its : (u : Usable) (reg : Register) {f g : Floored ℕ} → f ≡ g → (register_form u).enc (with_floor f reg) ≡ (register_form u).enc (with_floor g reg)
-with_its u reg e = ap (λ (f : Floored ℕ). (register_form u).enc (with_floor f reg)) e
+with_its : (u : Usable) (reg : Register) {f g : Option ℕ} → f ≡ g → (register_form u).enc (with_floor f reg) ≡ (register_form u).enc (with_floor g reg)
+with_its u reg e = ap (λ (f : Option ℕ). (register_form u).enc (with_floor f reg)) e
 
 module _ (stamp : ℕ) (ws : List ℕ) where
   pub raise_stays : under stamp (read_heading ws).floor ≡ true → ws ≡ floor_raised stamp ws
   unfolding floor_raised
   raise_stays t = rw t
 
-  pub raise_moves : under stamp (read_heading ws).floor ≡ false → floor_stored (some stamp) ws ≡ floor_raised stamp ws
+  pub raise_moves : under stamp (read_heading ws).floor ≡ false → floor_stored (Some stamp) ws ≡ floor_raised stamp ws
   unfolding floor_raised
   raise_moves t = rw t
 
@@ -91,7 +82,7 @@ module _ (stamp : ℕ) (ws : List ℕ) where
         let e : under stamp (read_heading ws).floor ≡ under stamp reg.floor = ap (under stamp) (floor_read u reg ws is) in
         by_test (under stamp (read_heading ws).floor)
         (λ t. (a ∙ sym (raise_stays t) ∙ is ∙ with_its u reg (floor_stays stamp reg.floor (sym e ∙ t)), refl))
-        (λ t. (a ∙ sym (raise_moves t) ∙ ap (floor_stored (some stamp)) is ∙ with_its u reg (floor_moves stamp reg.floor (sym e ∙ t)), refl));
+        (λ t. (a ∙ sym (raise_moves t) ∙ ap (floor_stored (Some stamp)) is ∙ with_its u reg (floor_moves stamp reg.floor (sym e ∙ t)), refl));
   }
 
 -- by what a drop forgot
@@ -140,8 +131,8 @@ module _ (number : ℕ) (ws : List ℕ) where
   }
 
 -- ---- the floor forgotten, and raised to a dump's
-pub forget_turns : (ws : List ℕ) (u : Usable) → RegisterTurns u floor_gone silent ws (floor_stored none ws) (tt {0})
-forget_turns ws u = record { does = λ reg ok is. (ap (floor_stored none) is, refl) }
+pub forget_turns : (ws : List ℕ) (u : Usable) → RegisterTurns u floor_gone silent ws (floor_stored None ws) (tt {0})
+forget_turns ws u = record { does = λ reg ok is. (ap (floor_stored None) is, refl) }
 
 module _ (n : ℕ) (ws : List ℕ) where
   pub dumped_none : n ≡ 0 → ws ≡ floor_dumped n ws

@@ -3,7 +3,6 @@ use Prim.Native.Nat.{ℕ, ◌-◌, ◌≤◌, ◌<◌, max}
 use native.Mathlib.Omega.{arith}
 use mathlib.Core.Path.{◌≡◌, refl, sym, ap, ◌∙◌}
 use mathlib.Core.Bool.{Bool, true, false}
-use mathlib.Core.Option.{none}
 use mathlib.Core.List.{List}
 use lib.Dec.{leb}
 use lib.ListN.{get_or}
@@ -18,7 +17,7 @@ use Rattle.model.specs.Class.{pick}
 use Rattle.model.specs.Register.{Register, in_ring, sweep_ring, sweep_rings, swept_to, through_of, sweep}
 use Rattle.model.specs.RegisterWords.{register_form}
 use Rattle.model.proofs.RingsKept.{from_form, to_form, swapped_ok, swept_ok, sweep_ok}
-use Rattle.std.specs.Prelude.{Option}
+use Rattle.std.specs.Prelude.{Option, None}
 use Rattle.ring.specs.Sweep.{swept_ring, swept_says, raised_by}
 use Rattle.ring.proofs.Sweeping.{sweep_floor}
 use Rattle.register.specs.Rules.{raised_with, swept_class}
@@ -33,7 +32,7 @@ module _ (u : Usable) where
       to_form u (in_ring c (swept_ring a through) reg) (record {
         spare = r.spare;
         rings = swapped_ok u c (swept_ring a through (pick c reg.rings)) reg r
-            (swept_ok u.slots (ring_of u) a through none (pick c reg.rings) (r.rings c));
+            (swept_ok u.slots (ring_of u) a through None (pick c reg.rings) (r.rings c));
       })
 
   class_ok : (c : Class) (a through : ℕ) (reg : Register) → (register_form u).Ok reg → (register_form u).Ok (swept_class c a through reg)

@@ -1,7 +1,6 @@
 -- What a register's own words say and become, whatever words they are. Of the words of a well-formed register it is what the rules
 -- say: the contracts that cite this say that beside it. Readers go by `read_heading` of the model.
 use Rattle.std.specs.Prelude.{ℕ, ◌-◌, Bool, cond, Option, Some, None, List, eqb, get_or, set}
-use Rattle.std.proofs.Math.Option.{Option as Floor, some}
 use Rattle.model.specs.declared.Usable.{Usable}
 use Rattle.model.specs.Numbers.{under}
 use Rattle.model.specs.Register.{published}
@@ -20,12 +19,12 @@ abbrev pub sweep_stored : Usable → ℕ → List ℕ → List ℕ
 sweep_stored u s ws = set (set ws swept_at s) published_at (published u s)
 
 -- ---- the floor
-abbrev pub floor_stored : Floor ℕ → List ℕ → List ℕ
+abbrev pub floor_stored : Option ℕ → List ℕ → List ℕ
 floor_stored f ws = set (set ws has_floor_at (floor_flag f)) floor_at (floor_word f)
 
 -- raised to a stamp, unless it is as high
 unfoldable pub floor_raised : ℕ → List ℕ → List ℕ
-floor_raised stamp ws = cond (under stamp (read_heading ws).floor) ws (floor_stored (some stamp) ws)
+floor_raised stamp ws = cond (under stamp (read_heading ws).floor) ws (floor_stored (Some stamp) ws)
 
 -- by what a drop forgot
 abbrev pub floor_raised_by : Option ℕ → List ℕ → List ℕ

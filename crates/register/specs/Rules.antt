@@ -1,6 +1,5 @@
 -- The model's rules on one register, as the functions of this crate name them.
-use Rattle.std.specs.Prelude.{ℕ, Bool, Option, []}
-use Rattle.std.proofs.Math.Option.{none}
+use Rattle.std.specs.Prelude.{ℕ, Bool, Option, None, []}
 use Rattle.model.specs.declared.Class.{Class}
 use Rattle.model.specs.declared.Verdict.{Verdict}
 use Rattle.model.specs.declared.Usable.{Usable}
@@ -33,7 +32,7 @@ abbrev pub failed_at : Class → ℕ → ℕ → Register → Register
 failed_at c b newest reg = failed c (record { bucket = b; newest = newest; prints = [] }) reg
 
 abbrev pub floor_gone : Register → Register
-floor_gone reg = with_floor none reg
+floor_gone reg = with_floor None reg
 
 -- a question as the rules have it
 abbrev pub asked_by : Ask → Asked

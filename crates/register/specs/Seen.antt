@@ -1,6 +1,5 @@
 -- What a sweep would leave of a register, by what was seen of it, and the rules of judge on that.
 use Rattle.std.specs.Prelude.{ℕ, ◌+◌, ◌-◌, max, Bool, cond, ◌||◌, Option, Some, None, List, [], ◌∷◌, leb, ltb, if◌then◌else◌}
-use Rattle.std.proofs.Math.Option.{Option as Floored, none, some}
 use Rattle.model.specs.declared.Class.{Class}
 use Rattle.model.specs.declared.Class.TheVariants.{Feeders, Peers, Own}
 use Rattle.model.specs.declared.Reason.{Reason}
@@ -14,30 +13,17 @@ use Rattle.model.specs.Class.{pick, each}
 use Rattle.model.specs.Register.{Register, holds, through_of, sweep}
 use Rattle.model.specs.Judge.{Ask, window_for, front_past}
 use Rattle.model.specs.Reason.{judge_rules, first_rule}
-use Rattle.generation.specs.Rules.{went}
-use Rattle.ring.specs.Sweep.{swept_ring, swept_says, Visits, holds_after, room_after}
+use Rattle.ring.specs.Sweep.{swept_ring, swept_says, raised_by, Visits, holds_after, room_after}
 use Rattle.register.specs.declared.peeking.Seen.{Seen}
 
 -- ---- what was seen
--- the code's Option as a floor of the rules
-abbrev pub floor_of : Option ℕ → Floored ℕ
-floor_of None = none
-floor_of (Some f) = some f
-
-abbrev pub seen_floor : Seen → Floored ℕ
-seen_floor s = floor_of s.floor
-
 -- a sweep over no more buckets than a ring has positions
 abbrev pub Sees : Usable → Seen → Type 0
 Sees u s = Visits (ring_of u) s.buckets
 
--- raised to a stamp, unless it is as high; and by what would go
-unfoldable pub seen_raised : ℕ → Seen → Seen
-seen_raised stamp s = cond (under stamp (seen_floor s)) s (record { buckets = s.buckets; floor = Some stamp })
-
+-- its floor raised by what would go
 abbrev pub seen_raised_by : Option ℕ → Seen → Seen
-seen_raised_by None s = s
-seen_raised_by (Some stamp) s = seen_raised stamp s
+seen_raised_by d s = record { buckets = s.buckets; floor = raised_by d s.floor }
 
 -- what would go of a class's ring, and of the three
 unfoldable pub newest_of_class : Class → ℕ → ℕ → Register → Option ℕ
@@ -51,8 +37,8 @@ seen_rings s reg =
     (seen_raised_by (newest_of_class Peers from through reg) (seen_raised_by (newest_of_class Feeders from through reg) s))
 
 -- what is seen of a register at a reading: the buckets whose positions `sweep` visits, and the floor that it leaves
-abbrev pub seen_as : ℕ → ℕ → Floored ℕ → Seen
-seen_as from through floor = record { buckets = record { from = record { 0 = from }; through = record { 0 = through } }; floor = went floor }
+abbrev pub seen_as : ℕ → ℕ → Option ℕ → Seen
+seen_as from through floor = record { buckets = record { from = record { 0 = from }; through = record { 0 = through } }; floor = floor }
 
 abbrev pub swept_from : Usable → ℕ → Register → ℕ
 swept_from u through reg = if reg.pending || leb through reg.swept then through else max reg.swept (through - ring_of u)
@@ -64,7 +50,7 @@ seen_by u ms reg = seen_as (swept_from u (through_of u ms) reg) (through_of u ms
 unfoldable pub left_by : Seen → Register → Register
 left_by s reg = record {
   swept = if reg.pending then reg.swept else s.buckets.through.0;
-  floor = seen_floor s;
+  floor = s.floor;
   pending = reg.pending;
   spare = reg.spare;
   rings = each (swept_ring s.buckets.from.0 s.buckets.through.0) reg.rings;
@@ -81,7 +67,7 @@ unfoldable pub holder_left : Seen → ℕ → ℕ → Register → Option Class
 holder_left s b fp reg = holder_in (λ c. class_holds s c b fp reg)
 
 -- the floor and the window's two sides
-abbrev pub late_rules : Usable → Floored ℕ → Ask → List (Rule Reason)
+abbrev pub late_rules : Usable → Option ℕ → Ask → List (Rule Reason)
 late_rules u floor a =
     let window = window_for u a.who in
     rule Floor (under a.stamp floor)
@@ -89,7 +75,7 @@ late_rules u floor a =
     ∷ rule Ahead (front_past window a.stamp a.ms)
     ∷ []
 
-unfoldable pub late_rule : Usable → Floored ℕ → Ask → Reason
+unfoldable pub late_rule : Usable → Option ℕ → Ask → Reason
 late_rule u floor a = first_rule (late_rules u floor a)
 
 unfoldable pub judge_rule : Usable → Seen → Ask → Register → Reason

@@ -5,7 +5,7 @@ ghost use Rattle.register.specs.Words.{RingsOf, RingAt};
 
 use generation::Generation;
 use model::{Class, Usable};
-use numbers::{codes, layout, spans};
+use numbers::{layout, spans};
 use ring::Shape;
 
 // The sizes of a register's rings: the positions of each, and its words.
@@ -40,7 +40,7 @@ pub fn extent_in(u: Usable, rings: Rings, class: Class) -> RingExtent
     requires { RingsOf u rings }
     ensures { RingAt u class result }
 {
-    let number = codes::class_number(class) as usize;
+    let number = u64::from(class) as usize;
     let start = layout::HEADING + number * rings.width;
     RingExtent {
         shape: Shape {

@@ -1,7 +1,6 @@
 // What restore and resume ask of a register besides strikes: a generation that failed is forgotten, and the floor is raised,
 // or forgotten.
 ghost use Rattle.std.specs.Prelude.{◌≡◌, ◌≤◌, length};
-ghost use Rattle.std.proofs.Math.Option.{none};
 ghost use Rattle.runs.specs.Turns.{silent};
 ghost use Rattle.model.specs.declared.Usable.{Usable};
 ghost use Rattle.model.specs.Dump.{raised_to_dumped};
@@ -28,7 +27,7 @@ pub fn fail(part: &mut [u64], u: Usable, class: Class, bucket: Bucket, newest: u
 // Forgets the floor.
 pub fn forget_floor(part: &mut [u64])
     requires { 24 ≤ length part.old }
-    ensures part_after { part.new ≡ floor_stored none part.old }
+    ensures part_after { part.new ≡ floor_stored None part.old }
     ensures register_turns { (u : Usable) → RegisterTurns u floor_gone silent part.old part.new (tt {0}) }
 {
     part[layout::HAS_FLOOR] = 0;

@@ -6,7 +6,6 @@ ghost use Rattle.model.specs.declared.Usable.{Usable};
 ghost use Rattle.model.specs.Numbers.{under};
 ghost use Rattle.model.specs.Register.{raised, swept_to, published, begin as begun};
 ghost use Rattle.model.specs.RegisterWords.{read_heading};
-ghost use Rattle.model.specs.Optional.{optional};
 ghost use Rattle.register.specs.Heading.{published_in, swept_in, sweep_stored, floor_raised, floor_raised_by, begun_in, begin_told};
 ghost use Rattle.register.specs.Rules.{raised_with, begin_says, swept_answer};
 ghost use Rattle.register.specs.Words.{RegisterReads, RegisterTurns};
@@ -34,8 +33,8 @@ pub fn is_pending(part: &[u64]) -> bool
 // The newest stamp that it may have forgotten, if any.
 pub fn floor(part: &[u64]) -> Option<u64>
     requires { 24 ≤ length part.now }
-    ensures value { result ≡ optional (read_heading part.now).floor }
-    ensures register_reads { (u : Usable) → RegisterReads u (λ reg. optional reg.floor) part.now result }
+    ensures value { result ≡ (read_heading part.now).floor }
+    ensures register_reads { (u : Usable) → RegisterReads u (λ reg. reg.floor) part.now result }
 {
     (part[layout::HAS_FLOOR] == 1).then_some(part[layout::FLOOR])
 }

@@ -8,7 +8,7 @@ use crate::{heading, rings, sweeping};
 use model::{Deliverer, Judged, Usable, Verdict};
 use numbers::spans;
 
-// A ticket, the reading with its judging flag, and who delivers it.
+// A ticket, the reading with its judging flag, and who delivers it. The flag says nothing of another field: so it stands by itself.
 #[derive(Clone, Copy)]
 pub struct Ask {
     pub fp: u64,

@@ -4,7 +4,7 @@ ghost use Rattle.std.specs.Prelude.{◌≡◌, ◌<◌};
 ghost use Rattle.model.specs.Numbers.{under};
 ghost use Rattle.ring.specs.Ring.{PositionOf};
 ghost use Rattle.register.specs.Rules.{asked_by};
-ghost use Rattle.register.specs.Seen.{seen_floor, Sees, newest_of_class, seen_rings, seen_by, class_holds, holder_left, late_rule, judge_rule, room_left};
+ghost use Rattle.register.specs.Seen.{Sees, newest_of_class, seen_rings, seen_by, class_holds, holder_left, late_rule, judge_rule, room_left};
 ghost use Rattle.register.specs.Words.{RegisterWords, RegisterReads, RingsOf};
 
 use crate::extents::Rings;
@@ -22,7 +22,7 @@ pub struct Seen {
 
 // Whether a stamp is at or below the floor.
 fn is_under(seen: Seen, stamp: u64) -> bool
-    ensures { result ≡ under stamp (seen_floor seen) }
+    ensures { result ≡ under stamp seen.floor }
 {
     seen.floor.is_some_and(|floor| stamp <= floor)
 }
@@ -115,7 +115,7 @@ fn holder_after(part: &[u64], u: Usable, seen: Seen, bucket: Bucket, fp: u64) ->
 
 // The first of the rules on the stamp that is met: the floor, and the window's two sides.
 fn late_after(u: Usable, seen: Seen, ask: Ask) -> Reason
-    ensures { result ≡ late_rule u (seen_floor seen) (asked_by ask) }
+    ensures { result ≡ late_rule u seen.floor (asked_by ask) }
 {
     let window = spans::window_for(u, ask.who);
     let within = spans::in_window(window, ask.stamp, ask.now);

@@ -8,7 +8,8 @@ use std::io::{BufRead, Read};
 // The bytes of a line that are read at most, its end among them: a longer one brings 400,000 bytes or more.
 const LONGEST: u64 = 1638400;
 
-// A call: its code, its arguments, of which those that are not given are 0, and the bytes that it brings.
+// A call: its code, its arguments, of which those that are not given are 0, and the bytes that it brings. No call has more than 64
+// arguments: so they are an array and no `Vec`.
 #[derive(Clone, Copy)]
 pub struct Call<'a> {
     pub code: u64,

@@ -3,7 +3,9 @@ ghost use Rattle.std.specs.Prelude.{◌≤◌};
 
 use crate::answer::Line;
 use crate::line::Call;
+use model::{DelivererCode, Manner};
 use std::alloc::{AllocError, Global};
+use strikes::Asking;
 
 // The words that can be lent.
 const WORDS: usize = 100000;
@@ -69,8 +71,8 @@ const SETTINGS: u64 = 102;
 const POKE: u64 = 103;
 
 // A register: its words, of which as many are lent as `lent` says, if there are so many; the settings of the last opening that went
-// through; and those that the next call brings. All of them are 0 before the first opening, which every call refuses. Dumps are written
-// to `dump`.
+// through; and those that the next call brings, 29 words each. All of them are 0 before the first opening, which every call refuses.
+// Dumps are written to `dump`.
 #[derive(Drop)]
 pub struct Register {
     words: Vec<u64>,
@@ -154,19 +156,19 @@ impl Register {
         match code {
             JUDGE => Line::told(
                 alloc,
-                strikes::judge(s, words, a[0], a[1], a[2], a[3], a[4], a[5], a[6]),
+                strikes::ticket(s, words, a[0], Manner::Judged, asking(&a)),
             ),
             TAKE => Line::told(
                 alloc,
-                strikes::take(s, words, a[0], a[1], a[2], a[3], a[4], a[5], a[6]),
+                strikes::ticket(s, words, a[0], Manner::Taken, asking(&a)),
             ),
             JUDGE_BATCH => Line::told(
                 alloc,
-                strikes::judge_batch(s, words, a[0], a[1], a[2], a[3], a[4], a[5], a[6]),
+                strikes::ticket(s, words, a[0], Manner::JudgedBatch, asking(&a)),
             ),
             TAKE_BATCH => Line::told(
                 alloc,
-                strikes::take_batch(s, words, a[0], a[1], a[2], a[3], a[4], a[5], a[6]),
+                strikes::ticket(s, words, a[0], Manner::TakenBatch, asking(&a)),
             ),
             CONTAINS_HASH => Line::told(alloc, strikes::contains_hash(s, words, a[0], a[1])),
             BEGIN => Line::told(alloc, strikes::begin(s, words, a[0], a[1])),
@@ -185,7 +187,7 @@ impl Register {
             FLOOR => Line::told(alloc, strikes::floor(s, words, a[0])),
             PENDING => Line::told(alloc, strikes::pending(s, words, a[0])),
             SWEPT => Line::told(alloc, strikes::swept(s, words, a[0])),
-            HELD => Line::told(alloc, strikes::held(s, words, a[0], a[1])),
+            HELD => Line::told(alloc, strikes::held(s, words, deliverer_code(a[0], a[1]))),
             CLASS => Line::told(alloc, strikes::class_totals(s, words, a[0])),
             VIEW_REGISTER => {
                 let mut out = [0; VIEW];
@@ -196,17 +198,15 @@ impl Register {
             VIEW_DELIVERER => {
                 let mut out = [0; VIEW];
                 let out = &mut out[..output_length(a[2], a[3], VIEW)];
-                let answer = strikes::view_deliverer(s, words, a[0], a[1], out);
+                let answer = strikes::view_deliverer(s, words, deliverer_code(a[0], a[1]), out);
                 Line::told_with(alloc, answer, out)
             }
-            EXPLAIN => Line::told(
-                alloc,
-                strikes::explain(s, words, a[0], a[1], a[2], a[3], a[4], a[5], a[6]),
-            ),
-            STAMP_FOR => Line::told(
-                alloc,
-                strikes::stamp_for(s, words, a[0], a[1], a[2], a[3], a[4], a[5], a[6]),
-            ),
+            EXPLAIN => Line::told(alloc, strikes::explain(s, words, a[0], asking(&a))),
+            STAMP_FOR => {
+                let who = deliverer_code(a[4], a[5]);
+                let answer = strikes::stamp_for(s, words, a[0], a[1], a[2], a[3], who, a[6]);
+                Line::told(alloc, answer)
+            }
             _ => Line::unread(alloc),
         }
     }
@@ -228,6 +228,22 @@ fn settings_of(a: &[u64; 64]) -> [u64; 29] {
         settings[to..to + 6].copy_from_slice(&a[from..from + 6]);
     }
     settings
+}
+
+// The ticket that a call asks about: the arguments behind its register.
+fn asking(a: &[u64; 64]) -> Asking {
+    Asking {
+        fp: a[1],
+        stamp: a[2],
+        reading: a[3],
+        flag: a[4],
+        who: deliverer_code(a[5], a[6]),
+    }
+}
+
+// A deliverer, by two arguments.
+fn deliverer_code(kind: u64, number: u64) -> DelivererCode {
+    DelivererCode { kind, number }
 }
 
 // The length of an output: that which is given, else all of it. An output longer than that takes nothing that all of it does not.

@@ -4,8 +4,7 @@ use native.Mathlib.Omega.{arith}
 use mathlib.Core.Path.{◌≡◌, refl, sym, ap, subst, ◌∙◌}
 use mathlib.Core.Bool.{Bool, true, ◌&&◌}
 use mathlib.Core.List.{List, [], ◌∷◌}
-use Rattle.std.specs.Prelude.{Option as Given, None, Some}
-use mathlib.Core.Option.{Option, none, some}
+use Rattle.std.specs.Prelude.{Option, None, Some}
 use lib.ListN.{length, get_or}
 use Rattle.runs.proofs.Cases.{by_test}
 use Rattle.runs.specs.Turns.{silent}
@@ -23,7 +22,7 @@ use Rattle.dump.proofs.Walks.{walk_next, walk_done}
 use Rattle.taking.specs.Words.{RunWords, StateTurns}
 use Rattle.restoring.specs.declared.heads.Head.{Head}
 use Rattle.restoring.specs.Words.{Acts}
-use Rattle.restoring.specs.Rules.{headed, holding, restoring, RestoreActs, generation_restored, one_restored, class_restored, dump_restored, restored_whole, proven_to, resumed_whole}
+use Rattle.restoring.specs.Rules.{headed, holding, restoring, RestoreActs, generation_restored, one_restored, class_restored, dump_restored, restored_whole, resumed_whole}
 use Rattle.restoring.proofs.Acting.{acts_turns}
 use Rattle.restoring.proofs.Steps.{Rest, rest_start, rest_step, rest_end}
 
@@ -139,7 +138,7 @@ module _ (s : Settings) (r : ℕ) where
   -- ---- as the calls say it
   module _ (h : r < s.registers) (d : Dump) where
     pub restore_turns : (ws last : List ℕ) (v : Bool) → RestoreActs s r (dump_restored s r d) ws last v
-        → StateTurns s (λ t. (restored s r t (some d)).state) (restored_whole s r d) ws last v
+        → StateTurns s (λ t. (restored s r t (Some d)).state) (restored_whole s r d) ws last v
     unfolding restored after_restored
     restore_turns ws last v a = acts_turns s r h ws last a
 
@@ -147,28 +146,28 @@ module _ (s : Settings) (r : ℕ) where
     resume_to p reg k = resume (usable_at s r) s.shares d p reg k
 
     resume_turns : (p : Option ℕ) (ws last : List ℕ) (v : Bool) → RestoreActs s r (resume_to p) ws last v
-        → StateTurns s (λ t. (resumed s r t p (some d)).state) (resumed_whole s r d p) ws last v
+        → StateTurns s (λ t. (resumed s r t p (Some d)).state) (resumed_whole s r d p) ws last v
     unfolding resumed after_restored
     resume_turns p ws last v a = acts_turns s r h ws last a
 
-    pub resume_plain : (proven : Given ℕ) (ws mid last : List ℕ) (v : Bool) → proven ≡ None
+    pub resume_plain : (proven : Option ℕ) (ws mid last : List ℕ) (v : Bool) → proven ≡ None
         → Acts s r (λ reg k. floor_gone reg) (λ reg k. k) (λ reg. silent) ws mid (tt {0}) → RestoreActs s r (dump_restored s r d) mid last v
-        → StateTurns s (λ t. (resumed s r t (proven_to proven) (some d)).state) (resumed_whole s r d (proven_to proven)) ws last v
+        → StateTurns s (λ t. (resumed s r t proven (Some d)).state) (resumed_whole s r d proven) ws last v
     unfolding resume raised_to_proven
     resume_plain proven ws mid last v e a b =
-        let acts : RestoreActs s r (resume_to none) ws last v = record { does = λ t reg k n. b.does t (floor_gone reg) k (a.does t reg k n).0 } in
-        rw e (resume_turns none ws last v acts)
+        let acts : RestoreActs s r (resume_to None) ws last v = record { does = λ t reg k n. b.does t (floor_gone reg) k (a.does t reg k n).0 } in
+        rw e (resume_turns None ws last v acts)
 
-    pub resume_proven : (proven : Given ℕ) (floor : ℕ) (ws mid back last : List ℕ) (v : Bool) → proven ≡ Some floor
+    pub resume_proven : (proven : Option ℕ) (floor : ℕ) (ws mid back last : List ℕ) (v : Bool) → proven ≡ Some floor
         → Acts s r (λ reg k. floor_gone reg) (λ reg k. k) (λ reg. silent) ws mid (tt {0}) → RestoreActs s r (dump_restored s r d) mid back v
         → Acts s r (λ reg k. raised floor reg) (λ reg k. k) (λ reg. silent) back last (tt {0})
-        → StateTurns s (λ t. (resumed s r t (proven_to proven) (some d)).state) (resumed_whole s r d (proven_to proven)) ws last v
+        → StateTurns s (λ t. (resumed s r t proven (Some d)).state) (resumed_whole s r d proven) ws last v
     unfolding resume raised_to_proven
     resume_proven proven floor ws mid back last v e a b f =
-        let acts : RestoreActs s r (resume_to (some floor)) ws last v = record {
+        let acts : RestoreActs s r (resume_to (Some floor)) ws last v = record {
           does = λ t reg k n.
               let x = b.does t (floor_gone reg) k (a.does t reg k n).0 in
               let y = dump_restored s r d (floor_gone reg) k in
               ((f.does t y.register y.book x.0).0, x.1);
         } in
-        rw e (resume_turns (some floor) ws last v acts)
+        rw e (resume_turns (Some floor) ws last v acts)

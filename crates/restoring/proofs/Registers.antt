@@ -3,7 +3,7 @@ use Prim.Native.Nat.{ℕ, ◌-◌, ◌<◌, ◌≤◌}
 use mathlib.Core.Path.{◌≡◌, refl, sym, ap, subst, ◌∙◌}
 use mathlib.Core.Bool.{Bool, true, false}
 use mathlib.Core.List.{List, []}
-use mathlib.Core.Option.{none}
+use Rattle.std.specs.Prelude.{None}
 use borrow.Rule.Slice.PartMut.{mid_of, put_mid}
 use Rattle.runs.specs.Turns.{silent}
 use Rattle.model.specs.RegisterWords.{register_form}
@@ -115,7 +115,7 @@ module _ (s : Settings) (r : ℕ) (q : r < s.registers) (p : RegisterExtent) (l 
   pub forget_acts : ((u : Usable) → RegisterTurns u floor_gone silent part last (tt {0}))
       → RunWords s after × Acts s r (λ reg k. floor_gone reg) (λ reg k. k) (λ reg. silent) ws after (tt {0})
   forget_acts t =
-      let a = register_acts s r q p l ws floor_gone silent last (tt {0}) (λ reg ok. floor_ok (usable_at s r) none reg ok) (t p.u) in
+      let a = register_acts s r q p l ws floor_gone silent last (tt {0}) (λ reg ok. floor_ok (usable_at s r) None reg ok) (t p.u) in
       (acts_words s r q ws after w a, a)
 
   pub raise_acts : (n : ℕ) → ((u : Usable) → RegisterTurns u (raised n) silent part last (tt {0}))

@@ -1,5 +1,5 @@
 -- The model's rules of a restore, as the functions of this crate name them.
-use Rattle.std.specs.Prelude.{ℕ, ◌≡◌, Bool, true, false, cond, List, Option as Given, None, Some, Result, Ok, Err}
+use Rattle.std.specs.Prelude.{ℕ, ◌≡◌, Bool, true, false, cond, List, Option, Result, Ok, Err}
 use Rattle.model.specs.declared.Class.{Class}
 use Rattle.model.specs.declared.Deliverer.TheVariants.{Restored}
 use Rattle.model.specs.declared.Room.{Room}
@@ -14,7 +14,6 @@ use Rattle.model.specs.Book.{Book, second_of, granted, draw_says, drawn}
 use Rattle.model.specs.Register.{Register, strike}
 use Rattle.model.specs.Judge.{make_room}
 use Rattle.model.specs.Dump.{Dumped, Holding, Restoring, hold_one, hold_all, settled, restore_class, Dump, restore, resume}
-use Rattle.std.proofs.Math.Option.{Option, none, some}
 use Rattle.model.specs.Words.{State}
 use Rattle.model.specs.Calls.{register_at}
 use Rattle.restoring.specs.declared.heads.Head.{Head}
@@ -94,11 +93,6 @@ dump_restored s r d reg k = restore (usable_at s r) s.shares d reg k
 
 abbrev pub restored_whole : Settings → ℕ → Dump → State → Bool
 restored_whole s r d t = (restore (usable_at s r) s.shares d (register_at r t) t.book).whole
-
--- the model's option of the program's
-abbrev pub proven_to : Given ℕ → Option ℕ
-proven_to None = none
-proven_to (Some floor) = some floor
 
 abbrev pub resumed_whole : Settings → ℕ → Dump → Option ℕ → State → Bool
 resumed_whole s r d p t = (resume (usable_at s r) s.shares d p (register_at r t) t.book).whole

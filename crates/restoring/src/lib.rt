@@ -7,13 +7,12 @@ mod holding;
 mod on_book;
 mod on_register;
 
-ghost use Rattle.std.proofs.Math.Option.{some};
 ghost use Rattle.std.specs.Prelude.{◌<◌};
 ghost use Rattle.model.specs.Dump.{words_of};
 ghost use Rattle.model.specs.Calls.{restored, resumed};
 ghost use Rattle.dump.specs.Walk.{Whole, dump_at, dump_end};
 ghost use Rattle.taking.specs.Words.{RunWords, StateTurns};
-ghost use Rattle.restoring.specs.Rules.{RestoreActs, dump_restored, restored_whole, proven_to, resumed_whole};
+ghost use Rattle.restoring.specs.Rules.{RestoreActs, dump_restored, restored_whole, resumed_whole};
 
 use model::{Class, Settings};
 use numbers::starts;
@@ -35,7 +34,7 @@ fn restore_dump(run: &mut [u64], on: &OneRegister, bytes: &[u8]) -> bool
 // Reads a register's dump back, whose lengths have been read. Whether all of it is held.
 pub fn restore(run: &mut [u64], s: Settings, r: usize, bytes: &[u8]) -> bool
     requires { (RunWords s run.old × (r < s.registers)) × Whole bytes.now (dump_end (words_of bytes.now)) }
-    ensures { RunWords s run.new × StateTurns s (λ t. (restored s r t (some (dump_at (words_of bytes.now)))).state) (restored_whole s r (dump_at (words_of bytes.now))) run.old run.new result }
+    ensures { RunWords s run.new × StateTurns s (λ t. (restored s r t (Some (dump_at (words_of bytes.now)))).state) (restored_whole s r (dump_at (words_of bytes.now))) run.old run.new result }
 {
     let on = OneRegister {
         s,
@@ -48,7 +47,7 @@ pub fn restore(run: &mut [u64], s: Settings, r: usize, bytes: &[u8]) -> bool
 // The same, and the floor is forgotten first and raised to a proven one after, if there is one.
 pub fn resume(run: &mut [u64], s: Settings, r: usize, bytes: &[u8], proven: Option<u64>) -> bool
     requires { (RunWords s run.old × (r < s.registers)) × Whole bytes.now (dump_end (words_of bytes.now)) }
-    ensures { RunWords s run.new × StateTurns s (λ t. (resumed s r t (proven_to proven) (some (dump_at (words_of bytes.now)))).state) (resumed_whole s r (dump_at (words_of bytes.now)) (proven_to proven)) run.old run.new result }
+    ensures { RunWords s run.new × StateTurns s (λ t. (resumed s r t proven (Some (dump_at (words_of bytes.now)))).state) (resumed_whole s r (dump_at (words_of bytes.now)) proven) run.old run.new result }
 {
     let on = OneRegister {
         s,

@@ -6,7 +6,6 @@ use mathlib.Core.Path.{◌≡◌, refl, ap, sym, ◌∙◌}
 use mathlib.Core.Bool.{Bool, true, false, cond, not, ◌&&◌, and-true}
 use mathlib.Core.Logic.{◌⊎◌, inl, inr}
 use mathlib.Core.List.{List}
-use Rattle.std.proofs.Math.Option.{Option as Floor, none}
 use lib.Dec.{eqb, ltb}
 use lib.ListN.{length, get_or}
 use borrow.Author.Tests.{eq-eqb, ne_eqb, le-leb, lt-ltb, le-ltb}
@@ -24,35 +23,33 @@ use Rattle.model.proofs.Visited.{visited, visited_is, left_at, visits_at, visits
 use Rattle.model.proofs.Peeked.{peek, peeks, visits_floor}
 use Rattle.std.specs.Prelude.{Option, None}
 use Rattle.generation.specs.declared.Generation.{Generation as Leading}
-use Rattle.generation.specs.Rules.{sweep_says, went}
+use Rattle.generation.specs.Rules.{sweep_says}
 use Rattle.generation.specs.Words.{Leads}
 use Rattle.ring.specs.declared.Buckets.{Buckets}
 use Rattle.ring.specs.Ring.{places, RingReads, PositionOf, StartsAt}
-use Rattle.ring.specs.Sweep.{swept_ring, swept_says, newest_of, Visits, goes_at, holds_after, room_after}
+use Rattle.ring.specs.Sweep.{swept_ring, swept_says, raised_by, Visits, goes_at, holds_after, room_after}
 use Rattle.ring.proofs.Positions.{place_is}
 use Rattle.ring.proofs.Finding.{bucket_told}
-use Rattle.ring.proofs.Sweeping.{went_raised, went_nothing}
 
 -- ---- the newest that would go: the loop of every ring stands on the way of its peeks
-peek_says : (through : ℕ) (g : Generation) (f : Floor ℕ) → newest_of (went f) (sweep_says through g) ≡ went (peek through g f)
-peek_says through g f =
-    by_test (passed through g) (λ e. rw e (sym (went_raised f g.newest))) (λ e. rw e (sym (went_nothing f)))
+peek_says : (through : ℕ) (g : Generation) (f : Option ℕ) → raised_by (sweep_says through g) f ≡ peek through g f
+peek_says through g f = by_test (passed through g) (λ e. rw e) (λ e. rw e)
 
 pub record OnLook (from through : ℕ) (ring : Ring) (b : ℕ) (so_far : Option ℕ) : Type 0 where
-  pub at : Floor ℕ
-  pub says : so_far ≡ went at
-  pub left : peeks (through - b) through b ring at ≡ peeks (through - from) through from ring none
+  pub at : Option ℕ
+  pub says : so_far ≡ at
+  pub left : peeks (through - b) through b ring at ≡ peeks (through - from) through from ring None
 
 pub record Looks (S n from through : ℕ) (ws : List ℕ) (b : ℕ) (so_far : Option ℕ) : Type 0 where
   pub way : (ring : Ring) → (places S n).Ok ring → ws ≡ (places S n).enc ring → OnLook from through ring b so_far
 
 module _ (S n from through : ℕ) (ws : List ℕ) where
   pub peek_start : Looks S n from through ws from None
-  peek_start = record { way = λ ring ok is. record { at = none; says = refl; left = refl } }
+  peek_start = record { way = λ ring ok is. record { at = None; says = refl; left = refl } }
 
   module _ (b : ℕ) (so_far : Option ℕ) (l : Looks S n from through ws b so_far) where
     pub peek_on : b < through → (more : Option ℕ) → RingReads S n (λ ring. sweep_says through (generation_at ring b)) ws more
-        → (next : Option ℕ) → next ≡ newest_of so_far more → Looks S n from through ws (b + 1) next
+        → (next : Option ℕ) → next ≡ raised_by more so_far → Looks S n from through ws (b + 1) next
     unfolding peeks
     peek_on h more t next e = record {
       way = λ ring ok is.
@@ -74,8 +71,8 @@ module _ (S n from through : ℕ) (ws : List ℕ) where
           let z : through - b ≡ 0 = omega arith in
           let q = rw z at o.left in
           let some : 0 < length ring = rw ok.0 pos in
-          let f = visits_floor (through - from) through from (record { floor = none; ring = ring }) some in
-          o.says ∙ ap went (q ∙ sym f);
+          let f = visits_floor (through - from) through from (record { floor = None; ring = ring }) some in
+          o.says ∙ q ∙ sym f;
     }
 
 -- ---- what a sweep leaves at position p
@@ -88,7 +85,7 @@ module _ (s : Buckets) (p : ℕ) (ring : Ring) (h : p < length ring) where
 
   swept_there : get_or (swept_ring s.from.0 s.through.0 ring) p empty ≡ left_at seen s.through.0 here
   unfolding sweep_ring
-  swept_there = visits_at (s.through.0 - s.from.0) s.through.0 s.from.0 p (record { floor = none; ring = ring }) h
+  swept_there = visits_at (s.through.0 - s.from.0) s.through.0 s.from.0 p (record { floor = None; ring = ring }) h
 
   none_goes : (n : ℕ) → (not (eqb n 0) && eqb n 0) ≡ false
   none_goes n = by_test (eqb n 0) (λ e. rw e) (λ e. rw e)
@@ -174,7 +171,7 @@ first_slots fp g = refl
 module _ (S n b at : ℕ) (s : Buckets) (ws : List ℕ) (p : PositionOf b n at) (goes : Bool) (t : RingReads S n (goes_at s at) ws goes) where
   swept_long : (ring : Ring) → length (swept_ring s.from.0 s.through.0 ring) ≡ length ring
   unfolding sweep_ring
-  swept_long ring = visits_long (s.through.0 - s.from.0) s.through.0 s.from.0 (record { floor = none; ring = ring })
+  swept_long ring = visits_long (s.through.0 - s.from.0) s.through.0 s.from.0 (record { floor = None; ring = ring })
 
   after_is : (ring : Ring) → (places S n).Ok ring → ws ≡ (places S n).enc ring
       → generation_at (swept_ring s.from.0 s.through.0 ring) b ≡ cond goes (dropped (generation_at ring b)) (generation_at ring b)

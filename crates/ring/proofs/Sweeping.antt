@@ -5,7 +5,6 @@ use native.Mathlib.Numerals.{add-one}
 use native.Mathlib.Omega.{arith}
 use mathlib.Core.Path.{◌≡◌, refl, ap, sym, subst, ◌∙◌}
 use mathlib.Core.List.{List}
-use Rattle.std.proofs.Math.Option.{Option as Floor, none, some}
 use lib.ListN.{length}
 use lib.Dec.{eqb, ltb}
 use borrow.Author.Tests.{ltb-true, ltb-false}
@@ -19,13 +18,14 @@ use Rattle.model.specs.Register.{Ring, generation_at, with_generation, passed, S
 use Rattle.model.proofs.RingsKept.{visit_ok}
 use Rattle.model.proofs.Peeked.{visit_passed, visit_left}
 use Rattle.std.specs.Prelude.{Option, Some, None}
-use Rattle.generation.specs.Rules.{swept_at, sweep_says, went}
+use Rattle.generation.specs.Rules.{swept_at, sweep_says}
 use Rattle.ring.specs.Ring.{places, RingTurns, RingWords}
-use Rattle.ring.specs.Sweep.{swept_ring, swept_says, newest_of, raised_by}
+use Rattle.ring.specs.Sweep.{swept_ring, swept_says, raised_by}
 use Rattle.ring.proofs.Positions.{placed, of_placed, turned}
 
 -- ---- of two drops the newest, as the library's `max` has it
-pub newest_is : (a b : Option ℕ) → ord_max (option_cmp nat_cmp) a b ≡ newest_of a b
+pub newest_is : (a b : Option ℕ) → ord_max (option_cmp nat_cmp) a b ≡ raised_by b a
+unfolding raise
 newest_is None None = refl
 newest_is None (Some m) = refl
 newest_is (Some n) None = refl
@@ -38,15 +38,6 @@ newest_is (Some n) (Some m) =
     by_test (eqb m n) (λ q. rw (e, q) (ap Some k)) (λ q. rw (e, q) (ap Some k)))
 
 -- ---- one visit
-pub went_raised : (floor : Floor ℕ) (m : ℕ) → went (raise floor m) ≡ newest_of (went floor) (Some m)
-unfolding raise
-went_raised none m = refl
-went_raised (some f) m = refl
-
-pub went_nothing : (floor : Floor ℕ) → went floor ≡ newest_of (went floor) None
-went_nothing none = refl
-went_nothing (some f) = refl
-
 module _ (through b : ℕ) (w : Swept) where
   abbrev there : Generation
   there = generation_at w.ring b
@@ -56,10 +47,8 @@ module _ (through b : ℕ) (w : Swept) where
       by_test (passed through there) (λ e. rw (visit_passed through b w e, e))
       (λ e. rw (visit_left through b w e, e) (set-get_or w.ring (b % length w.ring) empty))
 
-  visit_floor : newest_of (went w.floor) (sweep_says through there) ≡ went (visit through b w).floor
-  visit_floor =
-      by_test (passed through there) (λ e. rw (visit_passed through b w e, e) (sym (went_raised w.floor there.newest)))
-      (λ e. rw (visit_left through b w e, e) (sym (went_nothing w.floor)))
+  visit_floor : raised_by (sweep_says through there) w.floor ≡ (visit through b w).floor
+  visit_floor = by_test (passed through there) (λ e. rw (visit_passed through b w e, e)) (λ e. rw (visit_left through b w e, e))
 
   visit_fine : (S n : ℕ) → (places S n).Ok w.ring → (places S n).Ok (visit through b w).ring
   visit_fine S n ok = of_placed S n _ (visit_ok S n through b w (placed S n w.ring ok))
@@ -69,8 +58,8 @@ pub record OnWay (S n from through : ℕ) (ring : Ring) (b : ℕ) (words : List 
   pub at : Swept
   pub ok : (places S n).Ok at.ring
   pub are : words ≡ (places S n).enc at.ring
-  pub says : so_far ≡ went at.floor
-  pub left : visits (through - b) through b at ≡ sweep_ring from through none ring
+  pub says : so_far ≡ at.floor
+  pub left : visits (through - b) through b at ≡ sweep_ring from through None ring
 
 pub record Sweeps (S n from through : ℕ) (ws : List ℕ) (b : ℕ) (words : List ℕ) (so_far : Option ℕ) : Type 0 where
   pub good : RingWords S n words
@@ -81,18 +70,18 @@ module _ (S n from through : ℕ) (ws : List ℕ) where
   unfolding sweep_ring
   sweep_start good = record {
     good = good;
-    way = λ ring ok is. record { at = record { floor = none; ring = ring }; ok = ok; are = is; says = refl; left = refl };
+    way = λ ring ok is. record { at = record { floor = None; ring = ring }; ok = ok; are = is; says = refl; left = refl };
   }
 
   module _ (b : ℕ) (words : List ℕ) (so_far : Option ℕ) (s : Sweeps S n from through ws b words so_far) where
     pub sweep_on : b < through → (last : List ℕ) (more : Option ℕ)
         → RingTurns S n (λ ring. with_generation ring b (swept_at through (generation_at ring b)))
         (λ ring. sweep_says through (generation_at ring b)) words last more
-        → (next : Option ℕ) → next ≡ newest_of so_far more → Sweeps S n from through ws (b + 1) last next
+        → (next : Option ℕ) → next ≡ raised_by more so_far → Sweeps S n from through ws (b + 1) last next
     unfolding visits
     sweep_on h last more t next e =
         let v = s.good.is in
-        let w : Swept = record { floor = none; ring = v.value } in
+        let w : Swept = record { floor = None; ring = v.value } in
         let one : through - b ≡ suc (through - suc b) = omega arith in
         record {
           good = turned S n t s.good (rw (visit_ring through b w) (visit_fine through b w S n v.ok));
@@ -117,49 +106,49 @@ module _ (S n from through : ℕ) (ws : List ℕ) where
             let o = s.way ring ok is in
             let z : through - b ≡ 0 = omega arith in
             let q = rw z at o.left in
-            (o.are ∙ ap (λ (x : Swept). (places S n).enc x.ring) q, o.says ∙ ap (λ (x : Swept). went x.floor) q);
+            (o.are ∙ ap (λ (x : Swept). (places S n).enc x.ring) q, o.says ∙ ap (λ (x : Swept). x.floor) q);
       },
     )
 
 -- ---- a floor that is there already rises by what went, and the ring does not depend on it
-raise_twice : (x floor : Floor ℕ) (m : ℕ) → raised_by (went x) (raise floor m) ≡ raised_by (went (raised_by (went x) (some m))) floor
+raise_twice : (x floor : Option ℕ) (m : ℕ) → raised_by x (raise floor m) ≡ raised_by (raised_by x (Some m)) floor
 unfolding raise
-raise_twice none floor m = refl
-raise_twice (some k) none m = refl
-raise_twice (some k) (some f) m = ap some (omega arith)
+raise_twice None floor m = refl
+raise_twice (Some k) None m = refl
+raise_twice (Some k) (Some f) m = ap Some (omega arith)
 
 -- two sweeps on, one from a floor and one from none
-record Tied (f : Floor ℕ) (x y : Swept) : Type 0 where
+record Tied (f : Option ℕ) (x y : Swept) : Type 0 where
   ring : x.ring ≡ y.ring
-  floor : x.floor ≡ raised_by (went y.floor) f
+  floor : x.floor ≡ raised_by y.floor f
 
-tied : (k through b : ℕ) (f : Floor ℕ) (x y x' y' : Swept) → visit through b x ≡ x' → visit through b y ≡ y'
+tied : (k through b : ℕ) (f : Option ℕ) (x y x' y' : Swept) → visit through b x ≡ x' → visit through b y ≡ y'
     → Tied f (visits k through (suc b) x') (visits k through (suc b) y') → Tied f (visits (suc k) through b x) (visits (suc k) through b y)
 unfolding visits
 tied k through b f x y x' y' p q t =
     subst (λ (z : Swept). Tied f (visits k through (suc b) z) (visits k through (suc b) (visit through b y))) (sym p)
     (subst (λ (z : Swept). Tied f (visits k through (suc b) x') (visits k through (suc b) z)) (sym q) t)
 
-visits_law : (k through b : ℕ) (f : Floor ℕ) (r : Ring)
-    → Tied f (visits k through b (record { floor = f; ring = r })) (visits k through b (record { floor = none; ring = r }))
+visits_law : (k through b : ℕ) (f : Option ℕ) (r : Ring)
+    → Tied f (visits k through b (record { floor = f; ring = r })) (visits k through b (record { floor = None; ring = r }))
 unfolding visits raise
 visits_law zero through b f r = record { ring = refl; floor = refl }
 visits_law (suc k) through b f r =
     let g = generation_at r b in
     let after = with_generation r b (dropped g) in
     let from : Swept = record { floor = f; ring = r } in
-    let bare : Swept = record { floor = none; ring = r } in
+    let bare : Swept = record { floor = None; ring = r } in
     let p = visits_law k through (suc b) (raise f g.newest) after in
-    let q = visits_law k through (suc b) (some g.newest) after in
-    let x = (visits k through (suc b) (record { floor = none; ring = after })).floor in
-    let went_on = p.floor ∙ raise_twice x f g.newest ∙ ap (λ (z : Floor ℕ). raised_by (went z) f) (sym q.floor) in
+    let q = visits_law k through (suc b) (Some g.newest) after in
+    let x = (visits k through (suc b) (record { floor = None; ring = after })).floor in
+    let went_on = p.floor ∙ raise_twice x f g.newest ∙ ap (λ (z : Option ℕ). raised_by z f) (sym q.floor) in
     by_test (passed through g)
     (λ e.
     tied k through b f from bare _ _ (visit_passed through b from e) (visit_passed through b bare e)
     (record { ring = p.ring ∙ sym q.ring; floor = went_on }))
     (λ e. tied k through b f from bare _ _ (visit_left through b from e) (visit_left through b bare e) (visits_law k through (suc b) f r))
 
-pub sweep_floor : (from through : ℕ) (floor : Floor ℕ) (ring : Ring)
+pub sweep_floor : (from through : ℕ) (floor : Option ℕ) (ring : Ring)
     → ((sweep_ring from through floor ring).ring ≡ swept_ring from through ring)
     × ((sweep_ring from through floor ring).floor ≡ raised_by (swept_says from through ring) floor)
 unfolding sweep_ring

@@ -1,28 +1,20 @@
 -- A sweep answers the newest stamp of what went, which is what it would raise an absent floor to.
-use Rattle.std.specs.Prelude.{ℕ, ◌+◌, ◌≤◌, max, Bool, not, ◌&&◌, Option, Some, None, eqb, get_or}
-use Rattle.std.proofs.Math.Option.{Option as Floor, none}
+use Rattle.std.specs.Prelude.{ℕ, ◌+◌, ◌≤◌, Bool, not, ◌&&◌, Option, Some, None, eqb, get_or}
 use Rattle.model.specs.declared.Room.{Room}
 use Rattle.model.specs.Numbers.{raise}
 use Rattle.model.specs.Generation.{empty, held}
 use Rattle.model.specs.Register.{Ring, holds, sweep_ring}
 use Rattle.model.specs.Judge.{make_room}
-use Rattle.generation.specs.Rules.{went}
 use Rattle.ring.specs.declared.Buckets.{Buckets}
 
 abbrev pub swept_ring : ℕ → ℕ → Ring → Ring
-swept_ring from through ring = (sweep_ring from through none ring).ring
+swept_ring from through ring = (sweep_ring from through None ring).ring
 
 abbrev pub swept_says : ℕ → ℕ → Ring → Option ℕ
-swept_says from through ring = went (sweep_ring from through none ring).floor
+swept_says from through ring = (sweep_ring from through None ring).floor
 
--- of two drops, the newest that went
-abbrev pub newest_of : Option ℕ → Option ℕ → Option ℕ
-newest_of None b = b
-newest_of (Some n) None = Some n
-newest_of (Some n) (Some m) = Some (max n m)
-
--- a floor, raised by what went
-abbrev pub raised_by : Option ℕ → Floor ℕ → Floor ℕ
+-- a floor, raised by what went; and so of two drops the newest that went
+abbrev pub raised_by : Option ℕ → Option ℕ → Option ℕ
 raised_by None floor = floor
 raised_by (Some n) floor = raise floor n
 

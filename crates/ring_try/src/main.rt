@@ -13,23 +13,18 @@ use std::io;
 
 const SHAPE: Shape = Shape { slots: 4, ring: 3 };
 
-// The words of a position, and of the ring.
+// The words of a position, and of the ring, which lie in an array: a host lends fixed memory, too.
 const WIDTH: usize = 4 + layout::GENERATION_HEAD;
 
 const WORDS: usize = 3 * WIDTH;
 
-fn print(rt: &impl Print, n: u64, end: u8) -> io::Result<()> {
-    print!(rt; "{n}")?;
-    rt.write_all(&[end])
-}
-
-// The answer's code, then the words.
+// The answer's code, then the words. generation_try has these lines too: no crate that both use prints, and one for them would be longer.
 fn show(rt: &impl Print, says: u64, words: &[u64]) -> io::Result<()> {
-    print(rt, says, b':')?;
+    print!(rt; "{says}:")?;
     for word in words {
-        print(rt, *word, b' ')?;
+        print!(rt; "{word} ")?;
     }
-    rt.write_all(&[b'\n'])
+    println!(rt; "")
 }
 
 // Whether these are the words of a well-formed ring.

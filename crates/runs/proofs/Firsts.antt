@@ -4,7 +4,7 @@ use Prim.Native.Nat.{ℕ, zero, suc, ◌+◌, ◌≤◌}
 use native.Mathlib.Omega.{arith}
 use mathlib.Core.Path.{◌≡◌, ap, ◌∙◌}
 use mathlib.Core.List.{List, ◌∷◌}
-use lib.ListN.{length, get_or, set, drop}
+use lib.ListN.{length, get_or, drop}
 use lib.Seq.{drop-cons}
 
 -- the n words of ws from word i on, and then the rest
@@ -17,11 +17,3 @@ firsts_are zero i ws h = let e : i + 0 ≡ i = omega arith in rw e
 firsts_are (suc n) i ws h =
     let e : i + suc n ≡ suc i + n = omega arith in
     drop-cons ws i 0 (omega arith) ∙ ap (λ (l : List ℕ). get_or ws i 0 ∷ l) (rw e (firsts_are n (suc i) ws (omega arith)))
-
--- four words stored at the start of a run, and five
-pub stored_four : (ws : List ℕ) (a b c d : ℕ) → 4 ≤ length ws → set (set (set (set ws 0 a) 1 b) 2 c) 3 d ≡ a ∷ b ∷ c ∷ d ∷ drop 4 ws
-stored_four ws a b c d h = ap (λ (l : List ℕ). set (set (set (set l 0 a) 1 b) 2 c) 3 d) (firsts_are 4 0 ws h)
-
-pub stored_five : (ws : List ℕ) (a b c d e : ℕ) → 5 ≤ length ws
-    → set (set (set (set (set ws 0 a) 1 b) 2 c) 3 d) 4 e ≡ a ∷ b ∷ c ∷ d ∷ e ∷ drop 5 ws
-stored_five ws a b c d e h = ap (λ (l : List ℕ). set (set (set (set (set l 0 a) 1 b) 2 c) 3 d) 4 e) (firsts_are 5 0 ws h)

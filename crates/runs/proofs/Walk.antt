@@ -5,14 +5,13 @@ use native.Mathlib.Nat.{zero-mul, suc-mul, mul-le-mul_right}
 use native.Mathlib.Numerals.{add-one}
 use native.Mathlib.Omega.{arith}
 use mathlib.Core.Path.{◌≡◌, ap, sym, ◌∙◌}
-use mathlib.Core.Bool.{Bool, true, false, ◌&&◌, and_assoc, and-true}
-use mathlib.Core.List.{List, [], ◌∷◌}
-use lib.ListN.{take, drop}
+use mathlib.Core.Bool.{Bool, true, ◌&&◌, and_assoc, and-true}
+use mathlib.Core.List.{List}
+use lib.ListN.{drop}
 use lib.Seq.{drop-drop}
 use borrow.Rule.Slice.PartMut.{mid_of}
-use Rattle.runs.specs.Words.{zeros}
 use Rattle.runs.specs.Form.{Form}
-use Rattle.runs.specs.Combine.{wide_row, test_row, FormAt, form_at, read_up, test_up}
+use Rattle.runs.specs.Combine.{wide_row, test_row, FormAt, form_at}
 
 -- place i of n lies within n places
 pub inside : (n i k : ℕ) → i < n → i * k + k ≤ n * k
@@ -69,27 +68,3 @@ module _ {A : Type 0} (P : FormAt A) (n : ℕ) (ws : List ℕ) where
     walk_on b t =
         let m : (i + 1) * P.wide ≡ e = rw (add-one, suc-mul) (omega arith) in
         rw m (pass_on (form_at P) n ws i a all (rw ha w) e he h b t)
-
--- ---- a loop over at most n, which stops at the first that is not used
-module _ {A : Type 0} (F : Form A) (used : List ℕ → Bool) (n i : ℕ) (ws : List ℕ) (h : i < n) where
-  pub test_stop : used (take F.wide (drop (i * F.wide) ws)) ≡ false
-      → test_up F used (n - i) (drop (i * F.wide) ws) ≡ zeros (drop (i * F.wide) ws)
-  unfolding test_up
-  test_stop u = rw (one_left n i h, u)
-
-  pub read_stop : used (take F.wide (drop (i * F.wide) ws)) ≡ false → read_up F used (n - i) (drop (i * F.wide) ws) ≡ []
-  unfolding read_up
-  read_stop u = rw (one_left n i h, u)
-
-  next : drop F.wide (drop (i * F.wide) ws) ≡ drop ((i + 1) * F.wide) ws
-  next = let m : (i + 1) * F.wide ≡ i * F.wide + F.wide = rw add-one (suc-mul i F.wide) in rw (drop-drop, m)
-
-  pub test_on : used (take F.wide (drop (i * F.wide) ws)) ≡ true → test_up F used (n - i) (drop (i * F.wide) ws)
-      ≡ (F.test (take F.wide (drop (i * F.wide) ws)) && test_up F used (n - (i + 1)) (drop ((i + 1) * F.wide) ws))
-  unfolding test_up
-  test_on u = rw (one_left n i h, u, next)
-
-  pub read_on : used (take F.wide (drop (i * F.wide) ws)) ≡ true → read_up F used (n - i) (drop (i * F.wide) ws)
-      ≡ F.read (take F.wide (drop (i * F.wide) ws)) ∷ read_up F used (n - (i + 1)) (drop ((i + 1) * F.wide) ws)
-  unfolding read_up
-  read_on u = rw (one_left n i h, u, next)

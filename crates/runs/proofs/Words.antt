@@ -7,7 +7,6 @@ use mathlib.Core.List.{List, [], ◌∷◌, ◌++◌}
 use lib.ListN.{length, get_or, take, drop, replicate, length-append, length-replicate}
 use lib.Seq.{take-append-add, length-take-le, take-nil}
 use lib.Dec.{eqb}
-use lib.Pointwise.{pointwise}
 use lib.Bits.{bit_or, or_zero_l, or_add_and, and_le_r}
 use borrow.Author.Tests.{eq-eqb, eqb-true, ne_eqb}
 use Rattle.std.specs.List.{fold}

@@ -1,8 +1,7 @@
 -- A form of words says how a value lies in words: how many words it takes, how it is written, how words are read, which
 -- values are well formed and which words are sound. The test is a Bool on words, in the order in which code tests them, so
 -- that a function that tests has one equation as its contract, `r ≡ F.test (now part)`.
-use Rattle.std.specs.Prelude.{ℕ, ◌≡◌, Bool, true, cond, List, length, take}
-use Rattle.std.proofs.Math.Option.{Option, none, some}
+use Rattle.std.specs.Prelude.{ℕ, ◌≡◌, Bool, true, List, length}
 
 pub record Form (A : Type 0) : Type 1 where
   pub wide : ℕ
@@ -17,7 +16,3 @@ pub record Exact {A : Type 0} (F : Form A) : Type 0 where
   pub width : (x : A) → F.Ok x → length (F.enc x) ≡ F.wide
   pub back : (ws : List ℕ) → length ws ≡ F.wide → F.test ws ≡ true → F.Ok (F.read ws) × (ws ≡ F.enc (F.read ws))
   pub forth : (x : A) → F.Ok x → (F.test (F.enc x) ≡ true) × (F.read (F.enc x) ≡ x)
-
--- Of words that may be longer than the form: the value that the first of them hold, or none where those are not sound.
-abbrev pub view : {A : Type 0} → Form A → List ℕ → Option A
-view F ws = cond (F.test (take F.wide ws)) (some (F.read (take F.wide ws))) none

@@ -3,7 +3,7 @@ use Prim.Native.Nat.{ℕ}
 use mathlib.Core.Path.{◌≡◌, refl, sym, ◌∙◌, ap}
 use mathlib.Core.Bool.{Bool}
 use mathlib.Core.List.{List, [], ◌∷◌, ◌++◌}
-use mathlib.Core.Option.{Option, none}
+use Rattle.std.specs.Prelude.{Option, None}
 use Rattle.model.specs.declared.Class.TheVariants.{Feeders, Peers, Own}
 use Rattle.model.specs.declared.Settings.{Settings}
 use Rattle.model.specs.declared.Usable.{Usable}
@@ -22,7 +22,7 @@ use Rattle.numbers.specs.RegisterAt.{RegisterAt}
 use Rattle.register.specs.declared.judging.Ask.{Ask as Asked}
 use Rattle.register.specs.declared.peeking.Seen.{Seen}
 use Rattle.register.specs.Rules.{asked_by}
-use Rattle.register.specs.Seen.{seen_floor, left_by}
+use Rattle.register.specs.Seen.{left_by}
 use Rattle.register.proofs.Foreseen.{left_is}
 use Rattle.taking.specs.Words.{StateReads}
 use Rattle.taking.specs.Reasons.{seen_at, reason_seen}
@@ -55,7 +55,7 @@ module _ (q : Quest) (t : State) where
     unfolding seen_at
     left = ap (λ (x : Seen). left_by x reg) seen ∙ left_is u a.ms reg
 
-    same_floor : seen_floor q.seen ≡ after.floor
+    same_floor : q.seen.floor ≡ after.floor
     unfolding left_by
     same_floor = ap (λ (x : Register). x.floor) left
 
@@ -73,7 +73,7 @@ module _ (q : Quest) (t : State) where
     all_tried : least_from (gives q t) (ring_stamps u reg.rings.of_own)
         (least_from (gives q t) (ring_stamps u reg.rings.of_peers)
         (least_from (gives q t) (ring_stamps u reg.rings.of_feeders)
-        (least_from (gives q t) (window_stamps u a.ms) (least_from (gives q t) (edge_stamps (window_for u a.who) a.ms (seen_floor q.seen)) none))))
+        (least_from (gives q t) (window_stamps u a.ms) (least_from (gives q t) (edge_stamps (window_for u a.who) a.ms q.seen.floor) None))))
         ≡ sought_by q.on.s q.on.r a q.wanted t
     unfolding sought_by stamp_for stamps
     all_tried =

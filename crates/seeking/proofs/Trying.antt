@@ -4,14 +4,13 @@ use Prim.Native.Nat.{ℕ, suc, ◌+◌, ◌-◌, ◌^◌, ◌≤◌, ◌<◌, mi
 use native.Mathlib.Omega.{arith}
 use native.Mathlib.Numerals.{add-one}
 use mathlib.Core.Path.{◌≡◌, refl, sym, ◌∙◌, ap}
-use mathlib.Core.Bool.{Bool, true, false, not}
+use mathlib.Core.Bool.{Bool, true, false}
 use mathlib.Core.List.{List, [], ◌∷◌}
-use mathlib.Core.Option.{Option, none, some}
 use lib.ListN.{length, get_or, drop, drop_of_length-le}
 use lib.Seq.{drop-cons}
-use borrow.Author.Tests.{not-true, not-false}
+use borrow.Author.Tests.{eq-eqb, ne_eqb}
 use borrow.Rule.Slice.PartMut.{mid_of}
-use Rattle.std.specs.Prelude.{Some, None}
+use Rattle.std.specs.Prelude.{Option, Some, None}
 use Rattle.runs.proofs.Turns.{reads_as}
 use Rattle.model.specs.declared.Class.{Class}
 use Rattle.model.specs.declared.Reason.{Reason}
@@ -21,7 +20,7 @@ use Rattle.model.specs.declared.Usable.{Usable}
 use Rattle.model.specs.Numbers.{cap64}
 use Rattle.model.specs.Settings.{ring_of, usable_at}
 use Rattle.model.specs.Class.{pick}
-use Rattle.model.specs.Codes.{same_verdict, reason_verdict}
+use Rattle.model.specs.Codes.{verdict_number, reason_verdict}
 use Rattle.model.specs.Generation.{empty}
 use Rattle.model.specs.Register.{through_of}
 use Rattle.model.specs.Judge.{window_for, front_past, ahead_for}
@@ -30,9 +29,9 @@ use Rattle.model.specs.Stamp.{first_stamp, floor_stamps, edge_stamps, bucket_sta
 use Rattle.model.specs.Words.{State, state_form}
 use Rattle.model.specs.Calls.{register_at}
 use Rattle.model.proofs.SoundnessKept.{register_in}
+use Rattle.model.proofs.ToldApart.{verdicts_apart}
 use Rattle.numbers.specs.RegisterAt.{RegisterAt}
 use Rattle.ring.specs.Ring.{bucket_in}
-use Rattle.register.specs.Seen.{seen_floor}
 use Rattle.register.specs.Words.{RegisterReads}
 use Rattle.taking.proofs.InRun.{register_reads}
 use Rattle.taking.specs.Words.{StateReads}
@@ -50,33 +49,33 @@ verdict_told q x ws why w past v last at t window front named turned =
 
 -- ---- a stamp more
 module _ (q : Quest) (x : ℕ) (best : Option ℕ) (ws : List ℕ) (low : Bool) (is_low : low ≡ below x best) where
-  pub better_past : not low ≡ true → StateReads q.on.s (better_seen q x best) ws best
+  pub better_past : low ≡ false → StateReads q.on.s (better_seen q x best) ws best
   unfolding better_seen better
-  better_past e = record { says = λ state ok is. rw (← is_low, not-true low e) refl }
+  better_past e = record { says = λ state ok is. rw (← is_low, e) refl }
 
-  module _ (v : Verdict) (same : Bool) (lower : not low ≡ false) (t : StateReads q.on.s (verdict_seen q x) ws v) (is_same : same ≡ same_verdict q.wanted v) where
-    pub better_found : same ≡ true → StateReads q.on.s (better_seen q x best) ws (some x)
+  module _ (v : Verdict) (lower : low ≡ true) (t : StateReads q.on.s (verdict_seen q x) ws v) where
+    pub better_found : q.wanted ≡ v → StateReads q.on.s (better_seen q x best) ws (Some x)
     unfolding better_seen better
     better_found e =
         reads_as t (λ state ok is says.
-        let m : gives q state x ≡ true = ap (same_verdict q.wanted) (sym says) ∙ sym is_same ∙ e in
-        rw (← is_low, not-false low lower, m) refl)
+        let m : gives q state x ≡ true = eq-eqb _ _ (ap verdict_number (e ∙ says)) in
+        rw (← is_low, lower, m) refl)
 
-    pub better_not : same ≡ false → StateReads q.on.s (better_seen q x best) ws best
+    pub better_not : (q.wanted ≡ v → ⊥) → StateReads q.on.s (better_seen q x best) ws best
     unfolding better_seen better
     better_not e =
         reads_as t (λ state ok is says.
-        let m : gives q state x ≡ false = ap (same_verdict q.wanted) (sym says) ∙ sym is_same ∙ e in
-        rw (← is_low, not-false low lower, m) refl)
+        let m : gives q state x ≡ false = ne_eqb _ _ (λ f. e (verdicts_apart _ _ f ∙ sym says)) in
+        rw (← is_low, lower, m) refl)
 
 -- ---- the floor
 pub floor_none : (q : Quest) (best : Option ℕ) (ws : List ℕ) → q.seen.floor ≡ None
-    → StateReads q.on.s (least_seen q (floor_stamps (seen_floor q.seen)) best) ws best
+    → StateReads q.on.s (least_seen q (floor_stamps q.seen.floor) best) ws best
 unfolding least_seen least_from floor_stamps
 floor_none q best ws e = record { says = λ state ok is. rw e refl }
 
 pub floor_some : (q : Quest) (best last : Option ℕ) (ws : List ℕ) (x f : ℕ) → q.seen.floor ≡ Some f → x ≡ min (f + 1) (2 ^ 64 - 1)
-    → StateReads q.on.s (better_seen q x best) ws last → StateReads q.on.s (least_seen q (floor_stamps (seen_floor q.seen)) best) ws last
+    → StateReads q.on.s (better_seen q x best) ws last → StateReads q.on.s (least_seen q (floor_stamps q.seen.floor) best) ws last
 unfolding least_seen least_from floor_stamps better_seen cap64
 floor_some q best last ws x f e i t = reads_as t (λ state ok is says. says ∙ rw (e, i) refl)
 
@@ -88,7 +87,7 @@ front_capped ms ahead = omega arith
 pub edges_told : (q : Quest) (ws : List ℕ) (w : Window) (x front y : ℕ) (edges last : Option ℕ) → RegisterAt q.on.s q.on.r q.on.extent
     → w ≡ window_for q.on.extent.u q.ask.who → x ≡ q.ask.now.0 - w.behind → front ≡ min (q.ask.now.0 + w.ahead) (2 ^ 64 - 1)
     → y ≡ min (front + 1) (2 ^ 64 - 1)
-    → StateReads q.on.s (least_seen q (0 ∷ x ∷ y ∷ []) none) ws edges → StateReads q.on.s (least_seen q (floor_stamps (seen_floor q.seen)) edges) ws last
+    → StateReads q.on.s (least_seen q (0 ∷ x ∷ y ∷ []) None) ws edges → StateReads q.on.s (least_seen q (floor_stamps q.seen.floor) edges) ws last
     → StateReads q.on.s (edges_seen q) ws last
 unfolding edges_seen edge_stamps least_seen least_from
 edges_told q ws w x front y edges last at window i j k a b = record {

@@ -1,6 +1,5 @@
 -- The model's rules of a sought stamp, as the functions of this crate name them.
-use Rattle.std.specs.Prelude.{ℕ, ◌+◌, Bool, List, [], ◌∷◌, Option as Found, None, Some}
-use Rattle.std.proofs.Math.Option.{Option, none, some}
+use Rattle.std.specs.Prelude.{ℕ, ◌+◌, Bool, List, [], ◌∷◌, Option, None}
 use Rattle.model.specs.declared.Class.{Class}
 use Rattle.model.specs.declared.Settings.{Settings}
 use Rattle.model.specs.declared.Usable.{Usable}
@@ -15,15 +14,9 @@ use Rattle.model.specs.Words.{State}
 use Rattle.model.specs.Calls.{register_at}
 use Rattle.ring.specs.Ring.{bucket_in}
 use Rattle.register.specs.Rules.{asked_by}
-use Rattle.register.specs.Seen.{seen_floor}
 use Rattle.taking.specs.Words.{RunWords}
 use Rattle.taking.specs.Reasons.{SeenAt, reason_seen}
 use Rattle.seeking.specs.declared.asking.Quest.{Quest}
-
--- the model's option of the program's
-abbrev pub best_of : Found ℕ → Option ℕ
-best_of None = none
-best_of (Some x) = some x
 
 -- ---- what is asked about
 abbrev pub usable_for : Quest → Usable
@@ -52,7 +45,7 @@ unfoldable pub least_seen : Quest → List ℕ → Option ℕ → State → Opti
 least_seen q xs best t = least_from (gives q t) xs best
 
 unfoldable pub edges_seen : Quest → State → Option ℕ
-edges_seen q t = least_from (gives q t) (edge_stamps (window_for (usable_for q) q.ask.who) q.ask.now.0 (seen_floor q.seen)) none
+edges_seen q t = least_from (gives q t) (edge_stamps (window_for (usable_for q) q.ask.who) q.ask.now.0 q.seen.floor) None
 
 abbrev pub around_bucket : Usable → ℕ → List ℕ
 around_bucket u b = first_stamp u b ∷ first_stamp u (b + 1) ∷ []

@@ -8,7 +8,7 @@ mod tries;
 ghost use Rattle.std.specs.Prelude.{◌<◌};
 ghost use Rattle.register.specs.Rules.{asked_by};
 ghost use Rattle.taking.specs.Words.{RunWords, StateReads};
-ghost use Rattle.seeking.specs.Seeking.{best_of, sought_by};
+ghost use Rattle.seeking.specs.Seeking.{sought_by};
 
 pub use asking::Quest;
 use model::{Class, Settings, Verdict};
@@ -19,7 +19,7 @@ use taking::OneRegister;
 // The smallest stamp with which a ticket would get the wanted verdict. The stamp that the ticket brings is not read.
 pub fn stamp_for(run: &[u64], s: Settings, r: usize, ask: Ask, wanted: Verdict) -> Option<u64>
     requires { RunWords s run.now × (r < s.registers) }
-    ensures { StateReads s (sought_by s r (asked_by ask) wanted) run.now (best_of result) }
+    ensures { StateReads s (sought_by s r (asked_by ask) wanted) run.now result }
 {
     let on = OneRegister {
         s,

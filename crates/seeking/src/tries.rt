@@ -1,18 +1,17 @@
 // The stamps that are tried, each once. Between two of them the verdict does not change.
 ghost use Rattle.std.specs.Prelude.{◌≡◌};
 ghost use Rattle.model.specs.Stamp.{below, floor_stamps, window_stamps};
-ghost use Rattle.register.specs.Seen.{seen_floor};
 ghost use Rattle.taking.specs.Words.{StateReads};
-ghost use Rattle.seeking.specs.Seeking.{best_of, Placed, usable_for, better_seen, least_seen, edges_seen, around_bucket, ring_seen};
+ghost use Rattle.seeking.specs.Seeking.{Placed, usable_for, better_seen, least_seen, edges_seen, around_bucket, ring_seen};
 
 use crate::asking;
 use crate::asking::Quest;
 use model::{Bucket, Class};
-use numbers::{codes, spans};
+use numbers::spans;
 
 // A stamp is less than the least so far, if one was found.
 fn is_below(stamp: u64, best: Option<u64>) -> bool
-    ensures { result ≡ below stamp (best_of best) }
+    ensures { result ≡ below stamp best }
 {
     best.is_none_or(|least| stamp < least)
 }
@@ -20,12 +19,12 @@ fn is_below(stamp: u64, best: Option<u64>) -> bool
 // One more stamp: it is asked about where it is less than the least so far that gives the wanted verdict.
 fn better(run: &[u64], q: Quest, stamp: u64, best: Option<u64>) -> Option<u64>
     requires { Placed q run.now }
-    ensures { StateReads q.on.s (better_seen q stamp (best_of best)) run.now (best_of result) }
+    ensures { StateReads q.on.s (better_seen q stamp best) run.now result }
 {
     if !is_below(stamp, best) {
         return best;
     }
-    if codes::same_verdict(q.wanted, asking::verdict_at(run, q, stamp)) {
+    if q.wanted == asking::verdict_at(run, q, stamp) {
         return Some(stamp);
     }
     best
@@ -34,7 +33,7 @@ fn better(run: &[u64], q: Quest, stamp: u64, best: Option<u64>) -> Option<u64>
 // Each stamp of a list.
 fn least_of(run: &[u64], q: Quest, stamps: &[u64], first: Option<u64>) -> Option<u64>
     requires { Placed q run.now }
-    ensures { StateReads q.on.s (least_seen q stamps.now (best_of first)) run.now (best_of result) }
+    ensures { StateReads q.on.s (least_seen q stamps.now first) run.now result }
 {
     let mut best = first;
     for stamp in stamps {
@@ -46,7 +45,7 @@ fn least_of(run: &[u64], q: Quest, stamps: &[u64], first: Option<u64>) -> Option
 // The first stamp above the floor, if there is one.
 fn of_floor(run: &[u64], q: Quest, best: Option<u64>) -> Option<u64>
     requires { Placed q run.now }
-    ensures { StateReads q.on.s (least_seen q (floor_stamps (seen_floor q.seen)) (best_of best)) run.now (best_of result) }
+    ensures { StateReads q.on.s (least_seen q (floor_stamps q.seen.floor) best) run.now result }
 {
     match q.seen.floor {
         Some(floor) => better(run, q, floor.saturating_add(1), best),
@@ -57,7 +56,7 @@ fn of_floor(run: &[u64], q: Quest, best: Option<u64>) -> Option<u64>
 // 0, the first of the window, the first past its front, and the first above the floor.
 pub(crate) fn of_edges(run: &[u64], q: Quest) -> Option<u64>
     requires { Placed q run.now }
-    ensures { StateReads q.on.s (edges_seen q) run.now (best_of result) }
+    ensures { StateReads q.on.s (edges_seen q) run.now result }
 {
     let ms = q.ask.now.0;
     let window = spans::window_for(q.on.extent.u, q.ask.who);
@@ -70,7 +69,7 @@ pub(crate) fn of_edges(run: &[u64], q: Quest) -> Option<u64>
 // The first stamp of each bucket that a window at the reading can have.
 pub(crate) fn of_window(run: &[u64], q: Quest, first: Option<u64>) -> Option<u64>
     requires { Placed q run.now }
-    ensures { StateReads q.on.s (least_seen q (window_stamps (usable_for q) q.ask.now.0) (best_of first)) run.now (best_of result) }
+    ensures { StateReads q.on.s (least_seen q (window_stamps (usable_for q) q.ask.now.0) first) run.now result }
 {
     let u = q.on.extent.u;
     let through = spans::through_of(u, q.ask.now);
@@ -84,7 +83,7 @@ pub(crate) fn of_window(run: &[u64], q: Quest, first: Option<u64>) -> Option<u64
 // The first stamp of a bucket, and of the one after it.
 fn of_bucket(run: &[u64], q: Quest, bucket: Bucket, best: Option<u64>) -> Option<u64>
     requires { Placed q run.now }
-    ensures { StateReads q.on.s (least_seen q (around_bucket (usable_for q) bucket.0) (best_of best)) run.now (best_of result) }
+    ensures { StateReads q.on.s (least_seen q (around_bucket (usable_for q) bucket.0) best) run.now result }
 {
     let u = q.on.extent.u;
     let first = spans::first_stamp(u, bucket, 0);
@@ -95,7 +94,7 @@ fn of_bucket(run: &[u64], q: Quest, bucket: Bucket, best: Option<u64>) -> Option
 // Those of every position of a class's ring, whether it holds anything or not.
 pub(crate) fn of_ring(run: &[u64], q: Quest, class: Class, first: Option<u64>) -> Option<u64>
     requires { Placed q run.now }
-    ensures { StateReads q.on.s (ring_seen q class (best_of first)) run.now (best_of result) }
+    ensures { StateReads q.on.s (ring_seen q class first) run.now result }
 {
     let mut best = first;
     for i in 0..spans::ring_of(q.on.extent.u) as usize {

@@ -1,41 +1,38 @@
 -- Each deed on one register that nothing refuses: what is told, from what the function on the register's part does.
 use Prim.Native.Nat.{ℕ}
-use mathlib.Core.Path.{◌≡◌, refl, ap}
+use mathlib.Core.Path.{◌≡◌, refl}
 use mathlib.Core.Bool.{Bool, true, false, cond}
-use mathlib.Core.Option.{Option, none, some}
 use mathlib.Core.List.{List}
 use Rattle.runs.specs.Turns.{silent}
-use Rattle.std.proofs.Common.{Result, Ok}
+use Rattle.std.proofs.Common.{Result, Ok, Err}
+use Rattle.std.specs.Result.{IsErrAnd}
 use Rattle.model.specs.Answer.{Answer, Done, Said, Begun, Already}
+use Rattle.model.specs.declared.Manner.{Manner}
 use Rattle.model.specs.declared.Refusal.{Refusal}
 use Rattle.model.specs.Listed.{listed}
-use Rattle.model.specs.Optional.{optional}
 use Rattle.model.proofs.Refused.{listed_ok}
 use Rattle.model.specs.declared.Settings.{Settings}
 use Rattle.model.specs.declared.Usable.{Usable}
 use Rattle.model.specs.declared.Verdict.{Verdict}
-use Rattle.model.specs.Judge.{Ask}
 use Rattle.model.specs.Register.{Register, begin, sweep}
 use Rattle.model.specs.Settings.{settings_of, usable_at}
 use Rattle.model.specs.Words.{State}
-use Rattle.model.specs.Calls.{Asking, Manner, judged, judged_batch, Deed, On, Ticket, Begin, Sweep, Floor, SweptBucket, no_refusals, asking_fits, floor_answer}
-use Rattle.model.specs.Calls.{deed_fits, deed_refusals, done_on, ask_of, asked, after_judged, register_at, reply}
+use Rattle.model.specs.Calls.{Asking, Deed, On, Ticket, Begin, Sweep, Floor, SweptBucket, no_refusals, asking_fits, floor_answer}
+use Rattle.model.specs.Calls.{deed_fits, deed_refusals, done_on, register_at, reply}
 use Rattle.register.specs.declared.judging.Ask.{Ask as Handed}
-use Rattle.register.specs.Rules.{asked_by, begin_says, swept_answer, judged_register, judge_says, batch_register, batch_says}
+use Rattle.register.specs.Rules.{begin_says, swept_answer}
 use Rattle.register.specs.Words.{RegisterReads, RegisterTurns}
 use Rattle.numbers.specs.declared.starts.RegisterExtent.{RegisterExtent}
-use Rattle.strikes.specs.Calls.{Told, begun_or_already, floor_heard, swept_heard}
+use Rattle.vet.specs.Entries.{Refuses}
+use Rattle.strikes.specs.Admitted.{admits}
+use Rattle.strikes.specs.Calls.{Told, heard, begun_or_already, swept_heard}
 use Rattle.strikes.specs.Entries.{AtRegister, ask_read}
-use Rattle.strikes.proofs.OnRegister.{part_of, put_at, told_turned, told_read}
+use Rattle.strikes.proofs.OnRegister.{part_of, put_at, told_turned, told_read, deed_refused, code_refused}
 
 -- ---- what is told, in the words of the calls
 heard_begun : (b : Bool) → cond b Begun Already ≡ begun_or_already b
 heard_begun true = refl
 heard_begun false = refl
-
-heard_floor : (f : Option ℕ) → floor_answer f ≡ floor_heard (optional f)
-heard_floor none = refl
-heard_floor (some f) = refl
 
 module _ {st ws : List ℕ} {r : ℕ} {p : RegisterExtent} (at : AtRegister st ws r p) where
   pub begun : {n : ℕ} {last : List ℕ} {v : Bool} → ((u : Usable) → RegisterTurns u (begin n) begin_says (part_of p ws) last v)
@@ -60,37 +57,26 @@ module _ {st ws : List ℕ} {r : ℕ} {p : RegisterExtent} (at : AtRegister st w
   told_by {deed = deed} {answer = answer} tells reads =
       told_read at deed tells.fits tells.never answer (λ u t. rw u (tells.says (settings_of st) r t)) reads
 
-pub tells_floor : Tells Floor floor_heard (λ u reg. optional reg.floor)
+-- where it is refused
+pub reader_refused : (st ws : List ℕ) (r : ℕ) {R : Type 0} {deed : Deed} {answer : R → Answer} {f : Usable → Register → R} → Tells deed answer f
+    → (e : Refusal) (got : Result R Refusal) → IsErrAnd got (λ y. y ≡ e) → Refuses (admits st ws r) e → heard answer got ≡ reply st ws (On r deed)
+reader_refused st ws r {deed = deed} {answer = answer} tells e got out h = (deed_refused answer st ws r deed e got out tells.fits h).answer
+
+pub tells_floor : Tells Floor floor_answer (λ u reg. reg.floor)
 unfolding deed_fits deed_refusals done_on
-tells_floor = record { fits = refl; never = λ reg. refl; says = λ s r t. heard_floor (register_at r t).floor }
+tells_floor = record { fits = refl; never = λ reg. refl; says = λ s r t. refl }
 
 pub tells_swept : Tells SweptBucket swept_heard swept_answer
 unfolding deed_fits deed_refusals done_on
 tells_swept = record { fits = refl; never = λ reg. refl; says = λ s r t. refl }
 
--- ---- a ticket that is judged
--- what is told in a manner in which the register becomes f and the verdict is out
-abbrev pub Judges : Manner → (Usable → Ask → Register → Register) → (Usable → Ask → Register → Verdict) → Type 0
-Judges m f out = (st ws : List ℕ) (r : ℕ) (p : RegisterExtent) (a : Asking) (x : Handed) (last : List ℕ) (v : Verdict)
-    → AtRegister st ws r p → ◌≡◌ {A = Result Handed Refusal} (Ok x) (listed (asking_fits a) (ask_read a))
-    → RegisterTurns p.u (f p.u (asked_by x)) (out p.u (asked_by x)) (part_of p ws) last v
-    → Told st ws (On r (Ticket m a)) (Said v) (put_at p ws last)
+-- ---- a ticket that is refused: with 1 by a code that is not listed, or by one of the first four refusals
+module _ (st ws : List ℕ) (r : ℕ) (m : Manner) (a : Asking) (e : Refusal) (got : Result Verdict Refusal) (out : IsErrAnd got (λ y. y ≡ e)) where
+  pub ask_refused : Err e ≡ listed (asking_fits a) (ask_read a) → Told st ws (On r (Ticket m a)) (heard Said got) ws
+  unfolding deed_fits
+  ask_refused h = code_refused Said st ws r (Ticket m a) e got out (ask_read a) h
 
-judges : (m : Manner) (f : Usable → Ask → Register → Register) (out : Usable → Ask → Register → Verdict)
-    → ((s : Settings) (r : ℕ) (a : Ask) (x : State)
-    → asked s r m a x ≡ after_judged r x (record { says = out (usable_at s r) a (register_at r x); register = f (usable_at s r) a (register_at r x) }))
-    → Judges m f out
-unfolding deed_fits deed_refusals done_on after_judged
-judges m f out is st ws r p a x last v at read turn =
-    let q = listed_ok (asking_fits a) read in
-    let e : asked_by x ≡ ask_of a = ap asked_by q.1 in
-    told_turned at (Ticket m a) q.0 (λ reg. refl) Said
-    (λ u t. rw (is (settings_of st) r (ask_of a) t, u, e)) (λ u t. rw (is (settings_of st) r (ask_of a) t, u, e)) turn
-
-pub was_judged : Judges judged judged_register judge_says
-unfolding asked
-was_judged = judges judged judged_register judge_says (λ s r a x. refl)
-
-pub was_judged_batch : Judges judged_batch batch_register batch_says
-unfolding asked
-was_judged_batch = judges judged_batch batch_register batch_says (λ s r a x. refl)
+  pub ticket_refused : {x : Handed} → ◌≡◌ {A = Result Handed Refusal} (Ok x) (listed (asking_fits a) (ask_read a)) → Refuses (admits st ws r) e
+      → Told st ws (On r (Ticket m a)) (heard Said got) ws
+  unfolding deed_fits
+  ticket_refused asks h = deed_refused Said st ws r (Ticket m a) e got out (listed_ok (asking_fits a) asks).0 h

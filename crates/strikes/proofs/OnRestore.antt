@@ -4,10 +4,8 @@ use native.Mathlib.Omega.{arith}
 use mathlib.Core.Path.{◌≡◌, refl, sym, ◌∙◌, ap}
 use mathlib.Core.Bool.{Bool, true, false, cond}
 use mathlib.Core.List.{List}
-use mathlib.Core.Option.{none, some}
 use lib.ListN.{length}
-use Rattle.std.proofs.Common.{Result, Ok, Err, Some, None}
-use Rattle.std.proofs.Common.{Option as Optional}
+use Rattle.std.proofs.Common.{Result, Ok, Err, Option, Some, None}
 use Rattle.std.specs.Result.{IsErrAnd}
 use Rattle.model.specs.Answer.{Answer, refusal_number}
 use Rattle.model.specs.declared.Refusal.{Refusal}
@@ -26,7 +24,7 @@ use Rattle.std.specs.Bool.{then_some}
 use Rattle.std.specs.Option.{ok_or}
 use Rattle.dump.specs.Walk.{dump_at, dump_end, lengths_of, Whole}
 use Rattle.dump.proofs.Walks.{cut, whole}
-use Rattle.restoring.specs.Rules.{proven_to, restored_whole, resumed_whole}
+use Rattle.restoring.specs.Rules.{restored_whole, resumed_whole}
 use Rattle.taking.specs.Words.{StateTurns}
 use Rattle.strikes.specs.declared.Restored.{Restored}
 use Rattle.strikes.specs.Calls.{Told, heard, restore_answer, restored_heard}
@@ -36,21 +34,21 @@ use Rattle.strikes.proofs.Admitting.{first_own}
 use Rattle.strikes.proofs.OnWhole.{run_of, put_run, refused_now, told_whole}
 
 -- ---- a dump that is cut short
-seven : (bs : List ℕ) → read_dump bs ≡ none → first_own (restore_refusals bs) ≡ 7
+seven : (bs : List ℕ) → read_dump bs ≡ None → first_own (restore_refusals bs) ≡ 7
 unfolding first_own first_met is_cut
 seven bs e = rw e
 
 -- the lengths that were read, and that there are none
-pub length_read : {B : Type 0} {x : B} (l : Optional B) → ◌≡◌ {A = Result B Refusal} (Ok x) (ok_or l CutShort) → l ≡ Some x
+pub length_read : {B : Type 0} {x : B} (l : Option B) → ◌≡◌ {A = Result B Refusal} (Ok x) (ok_or l CutShort) → l ≡ Some x
 length_read None h = absurd (cc)
 length_read (Some y) h = cc
 
-no_length : {B : Type 0} (l : Optional B) {e : Refusal} → ◌≡◌ {A = Result B Refusal} (Err e) (ok_or l CutShort) → (l ≡ None) × (e ≡ CutShort)
+no_length : {B : Type 0} (l : Option B) {e : Refusal} → ◌≡◌ {A = Result B Refusal} (Err e) (ok_or l CutShort) → (l ≡ None) × (e ≡ CutShort)
 no_length None h = (refl, cc)
 no_length (Some y) h = absurd (cc)
 
 module _ {A : Type 0} (f : A → Answer) {st ws : List ℕ} {r n : ℕ} (by : ByRegister st ws r n) (e : Refusal) (got : Result A Refusal) (out : IsErrAnd got (λ y. y ≡ e))
-    (bs : List ℕ) {l : Optional ℕ} (read : l ≡ lengths_of (read_dump bs)) (short : ◌≡◌ {A = Result ℕ Refusal} (Err e) (ok_or l CutShort)) where
+    (bs : List ℕ) {l : Option ℕ} (read : l ≡ lengths_of (read_dump bs)) (short : ◌≡◌ {A = Result ℕ Refusal} (Err e) (ok_or l CutShort)) where
   cut_short : (deed : Deed) → deed_fits deed ≡ true → ((reg : Register) → deed_refusals reg deed ≡ restore_refusals bs) → Told st ws (On r deed) (heard f got) ws
   cut_short deed fits own =
       let p = no_length l short in
@@ -68,12 +66,12 @@ module _ {A : Type 0} (f : A → Answer) {st ws : List ℕ} {r n : ℕ} (by : By
   resume_cut {flag = flag} told = cut_short (Resume bs _ _) (listed_ok (flag_fits flag) told).0 (λ reg. refl)
 
 -- ---- a proven floor, as the flag tells it
-proven_is : (told : Bool) (floor : ℕ) → proven_to (then_some told floor) ≡ cond told (some floor) none
+proven_is : (told : Bool) (floor : ℕ) → then_some told floor ≡ cond told (Some floor) None
 proven_is true floor = refl
 proven_is false floor = refl
 
 -- ---- one that is whole
-module _ (bs : List ℕ) {l : Optional ℕ} {long : ℕ} (read : l ≡ lengths_of (read_dump bs)) (known : l ≡ Some long) where
+module _ (bs : List ℕ) {l : Option ℕ} {long : ℕ} (read : l ≡ lengths_of (read_dump bs)) (known : l ≡ Some long) where
   dump_there : Whole bs long
   dump_there = whole bs long (sym known ∙ read)
 
@@ -92,7 +90,7 @@ module _ (bs : List ℕ) {l : Optional ℕ} {long : ℕ} (read : l ≡ lengths_o
 
   module _ {st ws : List ℕ} {r n : ℕ} (by : ByRegister st ws r n) {s : Settings} (own : s ≡ settings_of st) {last : List ℕ} {b : Bool}
       (a : Restored) (told : restored_heard a ≡ restore_answer (8 * long) b) where
-    pub was_restored : StateTurns s (λ t. (restored s r t (some (dump_at (words_of bs)))).state) (restored_whole s r (dump_at (words_of bs))) (run_of n ws) last b
+    pub was_restored : StateTurns s (λ t. (restored s r t (Some (dump_at (words_of bs)))).state) (restored_whole s r (dump_at (words_of bs))) (run_of n ws) last b
         → Told st ws (On r (Restore bs)) (restored_heard a) (put_run n ws last)
     unfolding deed_fits deed_refusals done_on restored after_restored
     was_restored turn =
@@ -100,16 +98,16 @@ module _ (bs : List ℕ) {l : Optional ℕ} {long : ℕ} (read : l ≡ lengths_o
         rw told (told_whole by (Restore bs) refl own (not_cut (Restore bs) (λ reg. refl) r) (restore_answer (8 * long))
         (λ t. rw (w.reads, w.long)) (λ t. rw w.reads) turn)
 
-    pub was_resumed : {p : Bool} {flag floor : ℕ} {proven : Optional ℕ} → ◌≡◌ {A = Result Bool Refusal} (Ok p) (listed (flag_fits flag) (flag_of flag))
+    pub was_resumed : {p : Bool} {flag floor : ℕ} {proven : Option ℕ} → ◌≡◌ {A = Result Bool Refusal} (Ok p) (listed (flag_fits flag) (flag_of flag))
         → proven ≡ then_some p floor
-        → StateTurns s (λ t. (resumed s r t (proven_to proven) (some (dump_at (words_of bs)))).state)
-        (resumed_whole s r (dump_at (words_of bs)) (proven_to proven)) (run_of n ws) last b
+        → StateTurns s (λ t. (resumed s r t proven (Some (dump_at (words_of bs)))).state)
+        (resumed_whole s r (dump_at (words_of bs)) proven) (run_of n ws) last b
         → Told st ws (On r (Resume bs flag floor)) (restored_heard a) (put_run n ws last)
     unfolding deed_fits deed_refusals done_on resumed after_restored
     was_resumed {p} {flag} {floor} {proven} flagged is turn =
         let w = dump_there in
         let q = listed_ok (flag_fits flag) flagged in
-        let o : proven_to proven ≡ cond (flag_of flag) (some floor) none =
-        ap proven_to is ∙ proven_is p floor ∙ ap (λ (b : Bool). cond b (some floor) none) q.1 in
+        let o : proven ≡ cond (flag_of flag) (Some floor) None =
+        is ∙ proven_is p floor ∙ ap (λ (b : Bool). cond b (Some floor) None) q.1 in
         rw told (told_whole by (Resume bs flag floor) q.0 own (not_cut (Resume bs flag floor) (λ reg. refl) r) (restore_answer (8 * long))
         (λ t. rw (w.reads, w.long, o)) (λ t. rw (w.reads, o)) turn)

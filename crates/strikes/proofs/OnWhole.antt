@@ -99,11 +99,9 @@ module _ {st ws : List ℕ} {r n : ℕ} (by : ByRegister st ws r n) where
   may_run = (admits_pass st ws r by.enters.ready.passed).0.may
 
   module _ {s : Settings} (read : s ≡ settings_of st) where
-    pub run_there : RunWords s (run_of n ws)
-    run_there = lies_read by.enters may_run read
-
-    pub register_there : r < s.registers
-    register_there = rw read by.there
+    -- what a function on all needed words asks for
+    pub run_there : RunWords s (run_of n ws) × (r < s.registers)
+    run_there = (lies_read by.enters may_run read, rw read by.there)
 
   module _ (deed : Deed) (fits : deed_fits deed ≡ true) where
     pub refused_now : refused st ws (On r deed) ≡ first_own (deed_refusals (register_at r (held_in (settings_of st) ws)) deed)

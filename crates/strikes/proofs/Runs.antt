@@ -1,14 +1,14 @@
 -- Each call on all needed words or on the front that nothing refuses: what is told, from what the function on those words does.
 use Prim.Native.Nat.{ℕ}
-use mathlib.Core.Path.{◌≡◌, refl, ◌∙◌, ap}
-use mathlib.Core.Bool.{Bool, true, ◌&&◌}
+use mathlib.Core.Path.{◌≡◌, refl, ap}
+use mathlib.Core.Bool.{true}
 use mathlib.Core.List.{List, ◌++◌}
 use lib.ListN.{take, drop}
 use Rattle.runs.specs.Turns.{Turns, silent}
-use Rattle.std.proofs.Common.{Result, Ok, Err, Some, None}
-use Rattle.std.proofs.Common.{Option as Optional}
+use Rattle.std.proofs.Common.{Result, Ok, Err, Option}
 use Rattle.std.specs.Result.{IsErrAnd}
 use Rattle.model.specs.Answer.{Answer, Done, Said, Because}
+use Rattle.model.specs.declared.Manner.{Manner}
 use Rattle.model.specs.declared.Refusal.{Refusal}
 use Rattle.model.specs.Listed.{listed}
 use Rattle.model.proofs.Refused.{listed_ok, listed_err}
@@ -20,48 +20,33 @@ use Rattle.model.specs.declared.Verdict.{Verdict}
 use Rattle.model.specs.Settings.{settings_of, limits_of}
 use Rattle.model.specs.Codes.{verdict_fits, verdict_of}
 use Rattle.model.specs.Book.{closed_book, with_limits}
-use Rattle.model.specs.Judge.{Ask}
-use Rattle.model.specs.Words.{State, FrontOk, encode_front}
-use Rattle.model.specs.Calls.{Asking, Seeking, asking_at, stamp_answer, Manner, taken, taken_batch, On, Ticket, Explain, StampFor, Expire, SetLimits, Close, deed_fits, codes_fit, limits_words_fit, asking_fits}
-use Rattle.model.specs.Calls.{deed_refusals, first_met, done_on, ask_of, asked, after_taken, step, reply, is_open, no_such_register, own_refusals}
+use Rattle.model.specs.Words.{FrontOk, encode_front}
+use Rattle.model.specs.Calls.{Asking, Seeking, asking_at, stamp_answer, On, Ticket, Explain, StampFor, Expire, SetLimits, Close, deed_fits, codes_fit, limits_words_fit, asking_fits}
+use Rattle.model.specs.Calls.{deed_refusals, first_met, done_on, ask_of, asked, step, reply, is_open, no_such_register, own_refusals}
 use Rattle.book.specs.FrontRules.{limited, shut}
 use Rattle.register.specs.Rules.{asked_by}
-use Rattle.taking.specs.Rules.{take_says, take_batch_says}
 use Rattle.taking.specs.Reasons.{reason_at}
 use Rattle.taking.specs.Words.{StateReads, StateTurns}
-use Rattle.seeking.specs.Seeking.{best_of, sought_by}
+use Rattle.seeking.specs.Seeking.{sought_by}
 use Rattle.vet.specs.Vetted.{vetted}
 use Rattle.vet.specs.Entries.{Refuses, ReadyWithin}
 use Rattle.strikes.specs.Admitted.{admits}
-use Rattle.strikes.specs.Calls.{Told, heard, stamp_heard}
+use Rattle.strikes.specs.Calls.{Told, heard}
 use Rattle.strikes.specs.Entries.{ByRegister, ask_read}
 use Rattle.strikes.proofs.Admitting.{first_own, OnBook}
 use Rattle.strikes.proofs.OnRegister.{deed_refused, code_refused}
 use Rattle.strikes.proofs.OnWhole.{run_of, put_run, told_whole, told_seen, told_run, told_front}
 
--- ---- a ticket that is taken
--- what is told in a manner in which the verdict is out
-abbrev pub Takes : Manner → (Settings → ℕ → Ask → State → Verdict) → Type 0
-Takes m out = (st ws : List ℕ) (r n : ℕ) (s : Settings) (a : Asking) (x : Handed) (last : List ℕ) (v : Verdict)
+-- ---- a ticket
+pub was_asked : (st ws : List ℕ) (r n : ℕ) (s : Settings) (m : Manner) (a : Asking) (x : Handed) (last : List ℕ) (v : Verdict)
     → ByRegister st ws r n → s ≡ settings_of st → ◌≡◌ {A = Result Handed Refusal} (Ok x) (listed (asking_fits a) (ask_read a))
-    → StateTurns s (λ y. (asked s r m (asked_by x) y).state) (out s r (asked_by x)) (run_of n ws) last v
+    → StateTurns s (λ y. (asked s r m (asked_by x) y).state) (λ y. (asked s r m (asked_by x) y).answer) (run_of n ws) last (Said v)
     → Told st ws (On r (Ticket m a)) (Said v) (put_run n ws last)
-
-takes : (m : Manner) (out : Settings → ℕ → Ask → State → Verdict)
-    → ((s : Settings) (r : ℕ) (a : Ask) (x : State) → (asked s r m a x).answer ≡ Said (out s r a x)) → Takes m out
 unfolding deed_fits deed_refusals first_own first_met done_on
-takes m out is st ws r n s a x last v by read asks turn =
+was_asked st ws r n s m a x last v by read asks turn =
     let q = listed_ok (asking_fits a) asks in
     let e : asked_by x ≡ ask_of a = ap asked_by q.1 in
-    told_whole by (Ticket m a) q.0 read (λ y. refl) Said (λ y. rw e (is s r (ask_of a) y)) (λ y. rw e) turn
-
-pub was_taken : Takes taken take_says
-unfolding asked after_taken
-was_taken = takes taken take_says (λ s r a x. refl)
-
-pub was_taken_batch : Takes taken_batch take_batch_says
-unfolding asked after_taken
-was_taken_batch = takes taken_batch take_batch_says (λ s r a x. refl)
+    told_whole by (Ticket m a) q.0 read (λ y. refl) (λ z. z) (λ y. rw e) (λ y. rw e) turn
 
 -- ---- the rule behind its verdict
 pub was_explained : (st ws : List ℕ) (r n : ℕ) (s : Settings) (a : Asking) (x : Handed) (v : Reason)
@@ -73,20 +58,9 @@ was_explained st ws r n s a x v by read asks reads =
     let e : asked_by x ≡ ask_of a = ap asked_by q.1 in
     told_seen by (Explain a) q.0 read (λ y. refl) Because (λ y. rw e) reads
 
-heard_stamp : (best : Optional ℕ) → stamp_heard best ≡ stamp_answer (best_of best)
-heard_stamp None = refl
-heard_stamp (Some x) = refl
-
 -- ---- the smallest stamp with a wanted verdict: its two codes are read one after the other
 module _ (st ws : List ℕ) (r : ℕ) (q : Seeking) where
-  abbrev both_listed : Bool
-  both_listed = asking_fits (asking_at 0 q) && verdict_fits q.wanted
-
-  seek_fits : both_listed ≡ deed_fits (StampFor q)
-  unfolding deed_fits
-  seek_fits = refl
-
-  module _ (f : Optional ℕ → Answer) (e : Refusal) (got : Result (Optional ℕ) Refusal) (out : IsErrAnd got (λ y. y ≡ e)) where
+  module _ (f : Option ℕ → Answer) (e : Refusal) (got : Result (Option ℕ) Refusal) (out : IsErrAnd got (λ y. y ≡ e)) where
     pub seek_ask_refused : Err e ≡ listed (asking_fits (asking_at 0 q)) (ask_read (asking_at 0 q)) → heard f got ≡ reply st ws (On r (StampFor q))
     unfolding deed_fits
     seek_ask_refused h =
@@ -97,7 +71,7 @@ module _ (st ws : List ℕ) (r : ℕ) (q : Seeking) where
     asks_fit : asking_fits (asking_at 0 q) ≡ true
     asks_fit = (listed_ok (asking_fits (asking_at 0 q)) asks).0
 
-    module _ (f : Optional ℕ → Answer) (e : Refusal) (got : Result (Optional ℕ) Refusal) (out : IsErrAnd got (λ y. y ≡ e)) where
+    module _ (f : Option ℕ → Answer) (e : Refusal) (got : Result (Option ℕ) Refusal) (out : IsErrAnd got (λ y. y ≡ e)) where
       pub seek_wanted_refused : Err e ≡ listed (verdict_fits q.wanted) (verdict_of q.wanted) → heard f got ≡ reply st ws (On r (StampFor q))
       unfolding deed_fits
       seek_wanted_refused h = (code_refused f st ws r (StampFor q) e got out (verdict_of q.wanted) (rw asks_fit h)).answer
@@ -107,18 +81,18 @@ module _ (st ws : List ℕ) (r : ℕ) (q : Seeking) where
       unfolding deed_fits
       wanted_fits = rw (asks_fit, (listed_ok (verdict_fits q.wanted) named).0)
 
-      pub seek_refused : (f : Optional ℕ → Answer) (e : Refusal) (got : Result (Optional ℕ) Refusal) → IsErrAnd got (λ y. y ≡ e) → Refuses (admits st ws r) e
+      pub seek_refused : (f : Option ℕ → Answer) (e : Refusal) (got : Result (Option ℕ) Refusal) → IsErrAnd got (λ y. y ≡ e) → Refuses (admits st ws r) e
           → heard f got ≡ reply st ws (On r (StampFor q))
       seek_refused f e got out h = (deed_refused f st ws r (StampFor q) e got out wanted_fits h).answer
 
-      pub was_sought : {n : ℕ} → ByRegister st ws r n → {s : Settings} → s ≡ settings_of st → (best : Optional ℕ)
-          → StateReads s (sought_by s r (asked_by x) v) (run_of n ws) (best_of best)
-          → stamp_heard best ≡ reply st ws (On r (StampFor q))
+      pub was_sought : {n : ℕ} → ByRegister st ws r n → {s : Settings} → s ≡ settings_of st → (best : Option ℕ)
+          → StateReads s (sought_by s r (asked_by x) v) (run_of n ws) best
+          → stamp_answer best ≡ reply st ws (On r (StampFor q))
       unfolding deed_refusals first_own first_met done_on sought_by
       was_sought by read best reads =
           let e : asked_by x ≡ ask_of (asking_at 0 q) = ap asked_by (listed_ok (asking_fits (asking_at 0 q)) asks).1 in
           let w = (listed_ok (verdict_fits q.wanted) named).1 in
-          heard_stamp best ∙ told_seen by (StampFor q) wanted_fits read (λ y. refl) stamp_answer (λ y. rw (e, w)) reads
+          told_seen by (StampFor q) wanted_fits read (λ y. refl) stamp_answer (λ y. rw (e, w)) reads
 
 -- ---- calls on the book
 pub closes : OnBook Close

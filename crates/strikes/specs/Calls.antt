@@ -1,13 +1,18 @@
 -- The calls as the functions hand them on.
-use Rattle.std.specs.Prelude.{ℕ, ◌≡◌, Bool, true, false, cond, List, Result, Ok, Err, Some, None}
-use Rattle.std.specs.Prelude.{Option as Optional}
+use Rattle.std.specs.Prelude.{ℕ, ◌≡◌, Bool, true, false, cond, List, Result, Ok, Err}
+use Rattle.model.specs.declared.Manner.{Manner}
 use Rattle.model.specs.declared.Refusal.{Refusal}
-use Rattle.model.specs.Answer.{Answer, Refused, Done, Begun, Already, Whole, Partly, NoFloor, FloorAt, SweptTo, Totals, NoStamp, StampAt, refusal_number}
+use Rattle.model.specs.Answer.{Answer, Refused, Done, Begun, Already, Whole, Partly, SweptTo, Totals, refusal_number}
 use Rattle.book.specs.declared.totals.Totals.{Totals as Read}
 use Rattle.register.specs.declared.heading.SweptTo.{SweptTo as Swept}
+use Rattle.strikes.specs.declared.Asking.{Asking as Handed}
 use Rattle.strikes.specs.declared.Restored.{Restored}
 use Rattle.strikes.specs.declared.Restored.TheVariants.{Whole as AllIn, Partly as PartIn}
-use Rattle.model.specs.Calls.{Manner, Ticket, Explain, StampFor, Call, On, reply, after, output_after}
+use Rattle.model.specs.Calls.{Asking, Ticket, Explain, StampFor, Call, On, reply, after, output_after}
+
+-- a ticket as a host asks about it, in the rules
+abbrev pub handed : Handed → Asking
+handed a = record { fp = a.fp; stamp = a.stamp; ms = a.reading; flag = a.flag; kind = a.who.kind; number = a.who.number }
 
 -- a ticket on a register, with every number as the host passes it
 abbrev pub asking : Manner → ℕ → ℕ → ℕ → ℕ → ℕ → ℕ → ℕ → Call
@@ -35,14 +40,6 @@ done x = Done
 abbrev pub begun_or_already : Bool → Answer
 begun_or_already true = Begun
 begun_or_already false = Already
-
-abbrev pub floor_heard : Optional ℕ → Answer
-floor_heard None = NoFloor
-floor_heard (Some f) = FloorAt f
-
-abbrev pub stamp_heard : Optional ℕ → Answer
-stamp_heard None = NoStamp
-stamp_heard (Some x) = StampAt x
 
 abbrev pub swept_heard : Swept → Answer
 swept_heard s = SweptTo s.bucket.0 s.published.0

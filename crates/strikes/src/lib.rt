@@ -1,18 +1,21 @@
 // The public calls. Each brings its settings as 29 words and the words that it may use. A call tries its refusals in their order,
 // 1, 2, 3, 4, 8, 6, 5, 7, and a refusal alters nothing; otherwise it does what the rules say, and leaves what lies past the needed words.
 // A code that is not listed is refused with 1, as unfit settings are, so which of the two is tried first tells nothing.
+// Kinds, classes, verdicts and flags come as numbers, as the C interface passes them, and are read here.
 #![tactic(auto)]
 
 ghost use Rattle.std.specs.Prelude.{◌≡◌, ◌*◌, ◌≤◌, length};
 ghost use Rattle.model.specs.Answer.{Said, Because, Entries, Dumped, Viewed};
-ghost use Rattle.model.specs.Calls.{judged, judged_batch, taken, taken_batch, On, Open, Close, Expire, SetLimits, HeldBy, ClassTotals, Begin, Sweep, ContainsHash, DumpTo, Restore, Resume, Floor, Pending, SweptBucket, ViewRegister, ViewDeliverer, yes_no, reply};
+ghost use Rattle.model.specs.Calls.{On, Ticket, Explain, Open, Close, Expire, SetLimits, HeldBy, ClassTotals, Begin, Sweep, ContainsHash, DumpTo, Restore, Resume, Floor, Pending, SweptBucket, ViewRegister, ViewDeliverer, floor_answer, stamp_answer, yes_no, reply};
 ghost use Rattle.register.specs.Words.{RegisterWords};
 ghost use Rattle.strikes.specs.Admitted.{DumpTried, told_number};
-ghost use Rattle.strikes.specs.Calls.{asking, explaining, seeking, Told, ToldOutput, heard, done, begun_or_already, floor_heard, stamp_heard, swept_heard, totals_heard, restored_heard, restore_answer};
+ghost use Rattle.strikes.specs.Calls.{handed, seeking, Told, ToldOutput, heard, done, begun_or_already, swept_heard, totals_heard, restored_heard, restore_answer};
 ghost use Rattle.strikes.specs.Entries.{Admits, FindsRegister, FindsClass, AsksOf};
 
 use book::totals::Totals;
-use model::{Class, Judged, Reason, Refusal, Shares, Usable, Verdict};
+use model::{
+    Class, Deliverer, DelivererCode, Judged, Manner, Reason, Refusal, Shares, Usable, Verdict,
+};
 use numbers::starts::RegisterExtent;
 use numbers::{bounds, codes, layout, starts};
 use register::Ask;
@@ -24,6 +27,34 @@ pub struct ClassExtent {
     pub shares: Shares,
     pub start: usize,
     pub end: usize,
+}
+
+// A ticket as a host asks about it, its codes not yet read: the reading with its judging flag, and who delivers it.
+#[derive(Clone, Copy, Debug, PartialEq, Eq)]
+pub struct Asking {
+    pub fp: u64,
+    pub stamp: u64,
+    pub reading: u64,
+    pub flag: u64,
+    pub who: DelivererCode,
+}
+
+impl TryFrom<Asking> for Ask {
+    type Error = Refusal;
+
+    ghost try_from_gives = { λ asking ask. AsksOf (handed asking) ask };
+
+    fn try_from(asking: Asking) -> Result<Ask, Refusal> {
+        let judging = codes::flag(asking.flag)?;
+        let who = Deliverer::try_from(asking.who)?;
+        Ok(Ask {
+            fp: asking.fp,
+            stamp: asking.stamp,
+            now: Judged(asking.reading),
+            judging,
+            who,
+        })
+    }
 }
 
 // What a restore brought in, with the bytes that it read.
@@ -70,64 +101,22 @@ fn enter_class(settings: &[u64], words: &[u64], class: Class) -> Result<ClassExt
     })
 }
 
-// What a ticket asks, as the host passes it.
-fn ask_of(
-    fp: u64,
-    stamp: u64,
-    reading: u64,
-    flag: u64,
-    kind: u64,
-    number: u64,
-) -> Result<Ask, Refusal>
-    ensures { AsksOf (record { fp = fp; stamp = stamp; ms = reading; flag = flag; kind = kind; number = number }) result }
-{
-    let judging = codes::flag(flag)?;
-    let who = codes::deliverer(kind, number)?;
-    Ok(Ask {
-        fp,
-        stamp,
-        now: Judged(reading),
-        judging,
-        who,
-    })
-}
-
-// What a ticket is. Nothing of it is remembered.
-pub fn judge(
+// What a ticket is. Where the manner takes, a new one is remembered: it draws on its deliverer's share, and is struck.
+// It is inlined, so that a caller which names the manner is compiled for it alone: a judge without what a take needs.
+#[inline(always)]
+pub fn ticket(
     settings: &[u64],
     words: &mut [u64],
     register: u64,
-    fp: u64,
-    stamp: u64,
-    reading: u64,
-    flag: u64,
-    kind: u64,
-    number: u64,
+    manner: Manner,
+    asking: Asking,
 ) -> Result<Verdict, Refusal>
-    ensures { Told settings.now words.old (asking judged register fp stamp reading flag kind number) (heard Said result) words.new }
+    ensures { Told settings.now words.old (On register (Ticket manner (handed asking))) (heard Said result) words.new }
 {
-    let ask = ask_of(fp, stamp, reading, flag, kind, number)?;
-    let at = enter_register(settings, words, register)?;
-    Ok(register::judge(&mut words[at.start..at.end], at.u, ask))
-}
-
-// As judge, for a batch: a Late ticket past the window's front is Ahead.
-pub fn judge_batch(
-    settings: &[u64],
-    words: &mut [u64],
-    register: u64,
-    fp: u64,
-    stamp: u64,
-    reading: u64,
-    flag: u64,
-    kind: u64,
-    number: u64,
-) -> Result<Verdict, Refusal>
-    ensures { Told settings.now words.old (asking judged_batch register fp stamp reading flag kind number) (heard Said result) words.new }
-{
-    let ask = ask_of(fp, stamp, reading, flag, kind, number)?;
-    let at = enter_register(settings, words, register)?;
-    Ok(register::judge_batch(&mut words[at.start..at.end], at.u, ask))
+    let ask = Ask::try_from(asking)?;
+    let need = admit(settings, words, register)?;
+    let s = bounds::settings_of(settings);
+    Ok(taking::ask(&mut words[0..need], s, register as usize, manner, ask))
 }
 
 // Begins: a pending register's floor is raised to the host's number. Says whether it was pending, and so began.
@@ -172,7 +161,7 @@ pub fn contains_hash(
 
 // The floor, if there is one.
 pub fn floor(settings: &[u64], words: &[u64], register: u64) -> Result<Option<u64>, Refusal>
-    ensures { heard floor_heard result ≡ reply settings.now words.now (On register Floor) }
+    ensures { heard floor_answer result ≡ reply settings.now words.now (On register Floor) }
 {
     let at = enter_register(settings, words, register)?;
     Ok(register::heading::floor(&words[at.start..at.end]))
@@ -194,61 +183,16 @@ pub fn swept(settings: &[u64], words: &[u64], register: u64) -> Result<SweptTo, 
     Ok(register::heading::swept(&words[at.start..at.end]))
 }
 
-// As judge, and a new ticket is remembered: it draws on its deliverer's share, and is struck.
-pub fn take(
-    settings: &[u64],
-    words: &mut [u64],
-    register: u64,
-    fp: u64,
-    stamp: u64,
-    reading: u64,
-    flag: u64,
-    kind: u64,
-    number: u64,
-) -> Result<Verdict, Refusal>
-    ensures { Told settings.now words.old (asking taken register fp stamp reading flag kind number) (heard Said result) words.new }
-{
-    let ask = ask_of(fp, stamp, reading, flag, kind, number)?;
-    let need = admit(settings, words, register)?;
-    let s = bounds::settings_of(settings);
-    Ok(taking::take(&mut words[0..need], s, register as usize, ask))
-}
-
-// As take, for a batch: judged as judge_batch judges it.
-pub fn take_batch(
-    settings: &[u64],
-    words: &mut [u64],
-    register: u64,
-    fp: u64,
-    stamp: u64,
-    reading: u64,
-    flag: u64,
-    kind: u64,
-    number: u64,
-) -> Result<Verdict, Refusal>
-    ensures { Told settings.now words.old (asking taken_batch register fp stamp reading flag kind number) (heard Said result) words.new }
-{
-    let ask = ask_of(fp, stamp, reading, flag, kind, number)?;
-    let need = admit(settings, words, register)?;
-    let s = bounds::settings_of(settings);
-    Ok(taking::take_batch(&mut words[0..need], s, register as usize, ask))
-}
-
 // The rule that gives the verdict of a take of this ticket, after the sweep that judge would make. The words are only read.
 pub fn explain(
     settings: &[u64],
     words: &[u64],
     register: u64,
-    fp: u64,
-    stamp: u64,
-    reading: u64,
-    flag: u64,
-    kind: u64,
-    number: u64,
+    asking: Asking,
 ) -> Result<Reason, Refusal>
-    ensures { heard Because result ≡ reply settings.now words.now (explaining register fp stamp reading flag kind number) }
+    ensures { heard Because result ≡ reply settings.now words.now (On register (Explain (handed asking))) }
 {
-    let ask = ask_of(fp, stamp, reading, flag, kind, number)?;
+    let ask = Ask::try_from(asking)?;
     let need = admit(settings, words, register)?;
     let s = bounds::settings_of(settings);
     Ok(taking::explain(&words[0..need], s, register as usize, ask))
@@ -262,13 +206,18 @@ pub fn stamp_for(
     fp: u64,
     reading: u64,
     flag: u64,
-    kind: u64,
-    number: u64,
+    who: DelivererCode,
     wanted: u64,
 ) -> Result<Option<u64>, Refusal>
-    ensures { heard stamp_heard result ≡ reply settings.now words.now (seeking register fp reading flag kind number wanted) }
+    ensures { heard stamp_answer result ≡ reply settings.now words.now (seeking register fp reading flag who.kind who.number wanted) }
 {
-    let ask = ask_of(fp, 0, reading, flag, kind, number)?;
+    let ask = Ask::try_from(Asking {
+        fp,
+        stamp: 0,
+        reading,
+        flag,
+        who,
+    })?;
     let verdict = Verdict::try_from(wanted)?;
     let need = admit(settings, words, register)?;
     let s = bounds::settings_of(settings);
@@ -317,22 +266,20 @@ pub fn open(
     let need = vet::settings_entry(settings)?;
     let s = bounds::settings_of(settings);
     let wanted = vet::limits_of(limits)?;
-    if !vet::starts_fit(s, starts) {
-        return Err(Refusal::Unfit);
-    }
+    let started = vet::starts_of(s, starts)?;
     let room = words.len();
     if room < need {
         return Err(Refusal::TooFewWords);
     }
-    opening::open(&mut words[0..need], s, wanted, starts);
+    opening::open(&mut words[0..need], s, wanted, &started);
     Ok(())
 }
 
 // The entries that a deliverer holds.
-pub fn held(settings: &[u64], words: &[u64], kind: u64, number: u64) -> Result<u64, Refusal>
-    ensures { heard Entries result ≡ reply settings.now words.now (HeldBy kind number) }
+pub fn held(settings: &[u64], words: &[u64], who: DelivererCode) -> Result<u64, Refusal>
+    ensures { heard Entries result ≡ reply settings.now words.now (HeldBy who.kind who.number) }
 {
-    let who = codes::deliverer(kind, number)?;
+    let who = Deliverer::try_from(who)?;
     let at = enter_class(settings, words, codes::class_of(who))?;
     Ok(book::held_by(&words[at.start..at.end], at.shares, who))
 }
@@ -399,13 +346,12 @@ pub fn view_register(
 pub fn view_deliverer(
     settings: &[u64],
     words: &[u64],
-    kind: u64,
-    number: u64,
+    who: DelivererCode,
     out: &mut [u64],
 ) -> Result<usize, Refusal>
-    ensures { ToldOutput settings.now words.now (ViewDeliverer kind number out.old) (heard Viewed result) out.new }
+    ensures { ToldOutput settings.now words.now (ViewDeliverer who.kind who.number out.old) (heard Viewed result) out.new }
 {
-    let who = codes::deliverer(kind, number)?;
+    let who = Deliverer::try_from(who)?;
     let at = enter_class(settings, words, codes::class_of(who))?;
     let long = book_view::view_length(&words[at.start..at.end], at.shares, who);
     if out.len() < long {

@@ -1,4 +1,3 @@
-mod Sending
 mod Needed
 pub mod ZeroIsNew
 pub mod Readers

@@ -3,7 +3,7 @@ use Prim.Native.Nat.{ℕ}
 use mathlib.Core.Path.{◌≡◌, refl, ap, sym, ◌∙◌, subst}
 use mathlib.Core.Bool.{Bool, true, false, ◌&&◌}
 use mathlib.Core.List.{List, [], ◌∷◌, ◌++◌, map}
-use mathlib.Core.Option.{some}
+use Rattle.std.specs.Prelude.{Some}
 use lib.Dec.{eqb}
 use lib.ListN.{get_or}
 use native.Mathlib.Omega.{arith}
@@ -23,7 +23,7 @@ use Rattle.strikes_c.specs.OnceInNumbers.{Served, AllKept, SaysNew, sort_ends, k
 use Rattle.strikes_c.proofs.ZeroIsNew.{says, new_number}
 
 -- ---- a take asks about its ticket
-sort_asks_too : (t : Strike) (r : ℕ) (d : Sort) → sort_takes r d ≡ some t → sort_asks r d ≡ some t
+sort_asks_too : (t : Strike) (r : ℕ) (d : Sort) → sort_takes r d ≡ Some t → sort_asks r d ≡ Some t
 unfolding sort_takes sort_asks
 sort_asks_too t r (Asks a) e = no (cc)
 sort_asks_too t r (Takes a) e = e
@@ -31,7 +31,7 @@ sort_asks_too t r Restores e = e
 sort_asks_too t r Resumes e = e
 sort_asks_too t r Plain e = e
 
-asks_too : (t : Strike) (k : Kind) → takes k ≡ some t → asks_about k ≡ some t
+asks_too : (t : Strike) (k : Kind) → takes k ≡ Some t → asks_about k ≡ Some t
 unfolding takes asks_about
 asks_too t (Opens limits starts) e = e
 asks_too t (OnOne r d) e = sort_asks_too t r d e
@@ -49,7 +49,7 @@ first_out : (a : Answer) (olds : List ℕ) → values_out 0 a olds ≡ 0 ∷ [] 
 first_out a [] e = absurd (let k : ◌≡◌ {A = ℕ} 1 0 = ap (λ (l : List ℕ). get_or l 0 1) e in omega arith)
 first_out a (old ∷ olds) e = (old, ap (λ (l : List ℕ). get_or l 0 1) e)
 
-is_new : (ws : List ℕ) (x : Served) (t : Strike) → Kept ws x → asks_about (kind x.call) ≡ some t → SaysNew x → reply x.settings ws x.call ≡ Said New
+is_new : (ws : List ℕ) (x : Served) (t : Strike) → Kept ws x → asks_about (kind x.call) ≡ Some t → SaysNew x → reply x.settings ws x.call ≡ Said New
 is_new ws x t c asks s =
     let v = first_out (reply x.settings ws x.call) x.olds (sym c.values ∙ s.verdict) in
     says x.settings ws x.call t asks New v.0 (sym c.number ∙ s.returned) (v.1 ∙ sym new_number)

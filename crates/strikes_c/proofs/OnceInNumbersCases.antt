@@ -4,11 +4,13 @@ use Prim.Native.Nat.{ℕ}
 use mathlib.Core.Path.{◌≡◌, refl}
 use mathlib.Core.Bool.{false}
 use mathlib.Core.List.{List, [], ◌∷◌, ◌++◌}
-use mathlib.Core.Option.{some}
+use Rattle.std.specs.Prelude.{Some}
 use lib.ListN.{replicate}
 use Rattle.runs.specs.Chunks.{flat}
+use Rattle.model.specs.declared.Manner.{Manner}
+use Rattle.model.specs.declared.Manner.TheVariants.{Judged, Taken}
 use Rattle.model.specs.Dump.{word_bytes}
-use Rattle.model.specs.Calls.{Manner, judged, taken, Ticket, Restore, Floor, Call, Open, On, kind, after}
+use Rattle.model.specs.Calls.{Ticket, Restore, Floor, Call, Open, On, kind, after}
 use Rattle.model.specs.Once.{Strike, asks_about, takes}
 use Rattle.model.proofs.NotVacuous.{compute_all}
 use Rattle.strikes_c.specs.Out.{value_out, Read}
@@ -31,10 +33,10 @@ abbrev serves : List ℕ → List ℕ → Call → ℕ → List ℕ → List ℕ
 serves st ws call n olds news = record { settings = st; call = call; returned = n; left = after st ws call; olds = olds; news = news }
 
 abbrev first : Served
-first = serves settings start (ask taken) 0 (9 ∷ []) (0 ∷ [])
+first = serves settings start (ask Taken) 0 (9 ∷ []) (0 ∷ [])
 
 abbrev refused : Served
-refused = serves [] first.left (ask taken) 1 (0 ∷ []) (0 ∷ [])
+refused = serves [] first.left (ask Taken) 1 (0 ∷ []) (0 ∷ [])
 
 abbrev partly : Served
 partly = serves settings refused.left (On 0 (Restore (flat word_bytes (0 ∷ 1 ∷ 3 ∷ 5 ∷ 3 ∷ 8 ∷ 9 ∷ 10 ∷ 0 ∷ 0 ∷ [])))) 0 (9 ∷ 9 ∷ []) (0 ∷ 80 ∷ [])
@@ -44,7 +46,7 @@ abbrev reads : Served
 reads = record { settings = settings; call = On 0 Floor; returned = 0; left = partly.left; olds = 9 ∷ 9 ∷ []; news = 1 ∷ 6 ∷ [] }
 
 abbrev later : Served
-later = serves settings reads.left (ask judged) 0 (9 ∷ []) (2 ∷ [])
+later = serves settings reads.left (ask Judged) 0 (9 ∷ []) (2 ∷ [])
 
 abbrev between : List Served
 between = refused ∷ partly ∷ reads ∷ []
@@ -73,6 +75,6 @@ all_kept = (
 )
 
 pub conditions_met : AllKept start (first ∷ (between ++ (later ∷ [])))
-    × ((takes (kind first.call) ≡ some ticket) × (SaysNew first × ((ended_among 0 between ≡ false) × (asks_about (kind later.call) ≡ some ticket))))
+    × ((takes (kind first.call) ≡ Some ticket) × (SaysNew first × ((ended_among 0 between ≡ false) × (asks_about (kind later.call) ≡ Some ticket))))
 unfolding compute_all sort_ends kind_ends ended_among
 conditions_met = (all_kept, (refl, (record { returned = refl; verdict = refl }, (refl, refl))))

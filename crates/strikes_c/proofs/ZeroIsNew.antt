@@ -2,14 +2,16 @@
 use Prim.Native.Nat.{ℕ}
 use mathlib.Core.Path.{◌≡◌, refl, ap, sym, ◌∙◌}
 use mathlib.Core.List.{List, [], ◌∷◌}
-use mathlib.Core.Option.{some}
+use Rattle.std.specs.Prelude.{Some}
 use lib.ListN.{get_or}
+use Rattle.model.specs.declared.Manner.{Manner}
+use Rattle.model.specs.declared.Manner.TheVariants.{Judged, JudgedBatch, Taken, TakenBatch}
 use Rattle.model.specs.declared.Verdict.{Verdict}
 use Rattle.model.specs.declared.Verdict.TheVariants.{New}
 use Rattle.model.specs.Answer.{Answer}
 use Rattle.model.specs.Answer.{Said}
 use Rattle.model.specs.Codes.{verdict_number, answer_number, answer_values}
-use Rattle.model.specs.Calls.{Manner, judged, judged_batch, taken, taken_batch, Asking, Ticket, Call, On, manner_sort, act, kind, reply}
+use Rattle.model.specs.Calls.{Asking, Ticket, Call, On, manner_sort, act, kind, reply}
 use Rattle.model.specs.Once.{Strike, strike_of, asks_about}
 use Rattle.model.proofs.ToldApart.{verdicts_apart, tickets_get_verdicts}
 use Rattle.strikes_c.specs.Out.{value_out}
@@ -25,7 +27,7 @@ unfolding answer_number
 said_number v = refl
 
 -- a call that asks about a ticket, returned 0 and wrote a verdict's number, answered that verdict
-module _ (st ws : List ℕ) (call : Call) (t : Strike) (asks : asks_about (kind call) ≡ some t) where
+module _ (st ws : List ℕ) (call : Call) (t : Strike) (asks : asks_about (kind call) ≡ Some t) where
   pub says : (v : Verdict) (old : ℕ) → answer_number (reply st ws call) ≡ 0 → value_out 0 (reply st ws call) old ≡ verdict_number v → reply st ws call ≡ Said v
   says v old z e =
       let w = tickets_get_verdicts st ws call t asks z in
@@ -33,12 +35,12 @@ module _ (st ws : List ℕ) (call : Call) (t : Strike) (asks : asks_about (kind 
       w.said ∙ ap Said (verdicts_apart w.verdict v k)
 
 -- the four entry points ask about their ticket
-asks_of : (m : Manner) (r : ℕ) (a : Asking) → asks_about (kind (On r (Ticket m a))) ≡ some (strike_of r a)
+asks_of : (m : Manner) (r : ℕ) (a : Asking) → asks_about (kind (On r (Ticket m a))) ≡ Some (strike_of r a)
 unfolding kind act asks_about manner_sort
-asks_of judged r a = refl
-asks_of judged_batch r a = refl
-asks_of taken r a = refl
-asks_of taken_batch r a = refl
+asks_of Judged r a = refl
+asks_of JudgedBatch r a = refl
+asks_of Taken r a = refl
+asks_of TakenBatch r a = refl
 
 one_value : (x y : ℕ) → x ∷ [] ≡ y ∷ [] → x ≡ y
 one_value x y e = ap (λ (l : List ℕ). get_or l 0 0) e

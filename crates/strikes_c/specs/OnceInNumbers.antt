@@ -6,8 +6,7 @@
 -- writes verdict 0. Two things end this, and nothing else: an opening that returned 0, and a resume on that register that returned 0. A
 -- restore ends nothing, whatever it returned and wrote for `whole`. The words at the start are any words, and calls that are refused
 -- stand in the list like the others.
-use Rattle.std.specs.Prelude.{ℕ, ◌≡◌, Bool, false, ◌&&◌, ◌||◌, List, [], ◌∷◌, ◌++◌, eqb}
-use Rattle.std.proofs.Math.Option.{some}
+use Rattle.std.specs.Prelude.{ℕ, ◌≡◌, Bool, false, ◌&&◌, ◌||◌, Some, List, [], ◌∷◌, ◌++◌, eqb}
 use Rattle.model.specs.Calls.{Call, Sort, Asks, Takes, Restores, Resumes, Plain, Kind, Opens, OnOne, Sets, Other, kind}
 use Rattle.model.specs.Once.{Strike, asks_about, takes}
 use Rattle.strikes_c.specs.Out.{Returned}
@@ -58,5 +57,5 @@ ended_among r (x ∷ xs) = kind_ends r (kind x.call) x || ended_among r xs
 abbrev pub OnceInNumbers : Type 0
 OnceInNumbers =
     (ws : List ℕ) (t : Strike) (first : Served) (between : List Served) (later : Served) → AllKept ws (first ∷ (between ++ (later ∷ [])))
-    → takes (kind first.call) ≡ some t → SaysNew first → ended_among t.register between ≡ false → asks_about (kind later.call) ≡ some t
+    → takes (kind first.call) ≡ Some t → SaysNew first → ended_among t.register between ≡ false → asks_about (kind later.call) ≡ Some t
     → SaysNew later → ⊥

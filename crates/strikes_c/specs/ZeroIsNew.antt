@@ -4,11 +4,12 @@
 --
 -- "For any answer that is an enum, a definition gives this paper's number and values for each case. The promises use that definition."
 use Rattle.std.specs.Prelude.{ℕ, ◌≡◌, List, [], ◌∷◌}
+use Rattle.model.specs.declared.Manner.{Manner}
 use Rattle.model.specs.declared.Verdict.{Verdict}
 use Rattle.model.specs.declared.Verdict.TheVariants.{New}
 use Rattle.model.specs.Answer.{Said}
 use Rattle.model.specs.Codes.{verdict_number}
-use Rattle.model.specs.Calls.{Manner, Call, reply}
+use Rattle.model.specs.Calls.{Call, reply}
 use Rattle.strikes.specs.Calls.{asking}
 use Rattle.strikes_c.specs.Out.{Returned}
 

@@ -1,16 +1,18 @@
 // The calls for C, each under its own name. A slice is a pointer and a length, and an out number a pointer. Each returns 0, or the refusal
 // number, and a refusal alters no word, no byte and no out number. Nothing needs to be vetted before a call. include/strikes.h declares them.
-#![tactic(auto)]
+// Kinds, classes, verdicts and flags are numbers here, and a ticket is six of them side by side: so C passes them.
+#![tactic(auto, unfolding(model::specs::Codes::answer_number, model::specs::Codes::answer_values, crate::specs::Out::value_out))]
 
 ghost use Rattle.std.specs.Prelude.{◌≡◌, [], ◌∷◌};
-ghost use Rattle.model.specs.Calls.{judged, judged_batch, taken, taken_batch, On, Open, Expire, Close, SetLimits, HeldBy, ClassTotals, Begin, Sweep, ContainsHash, DumpTo, Restore, Resume, Floor, Pending, SweptBucket, ViewRegister, ViewDeliverer};
-ghost use Rattle.strikes.specs.Calls.{asking, explaining, seeking};
+ghost use Rattle.model.specs.declared.Manner.TheVariants.{Judged, JudgedBatch, Taken, TakenBatch};
+ghost use Rattle.model.specs.Calls.{On, Ticket, Open, Expire, Close, SetLimits, HeldBy, ClassTotals, Begin, Sweep, ContainsHash, DumpTo, Restore, Resume, Floor, Pending, SweptBucket, ViewRegister, ViewDeliverer};
+ghost use Rattle.strikes.specs.Calls.{handed, asking, explaining, seeking};
 ghost use Rattle.strikes.specs.Admitted.{told_number};
 ghost use Rattle.strikes_c.specs.Out.{Returned, Read, Written, needed_status, needed_out};
 
-use model::Refusal;
-use numbers::{bounds, codes};
-use strikes::Restored;
+use model::{DelivererCode, Manner, Refusal};
+use numbers::codes;
+use strikes::{Asking, Restored};
 
 // What a call returns that has no out numbers: 0, or the refusal number.
 fn status(told: Result<(), Refusal>) -> u64
@@ -28,15 +30,13 @@ pub extern "C" fn strikes_words_needed(settings: &[u64], needed: &mut u64) -> u6
     ensures value { result ≡ needed_status settings.now }
     ensures needed_after { needed.new ≡ needed_out settings.now needed.old }
 {
-    if settings.len() != bounds::SETTINGS {
-        return 1;
+    match vet::settings_entry(settings) {
+        Ok(need) => {
+            *needed = need as u64;
+            0
+        }
+        Err(refusal) => u64::from(refusal),
     }
-    let n = bounds::words_needed(bounds::settings_of(settings));
-    if n == 0 {
-        return 1;
-    }
-    *needed = n;
-    0
 }
 
 // Opens the words: an empty book with these limits, and each register at its start.
@@ -52,7 +52,29 @@ pub extern "C" fn strikes_open(
     status(strikes::open(settings, limits, starts, words))
 }
 
+// Asks about a ticket, and stores its verdict. It is inlined as strikes::ticket is.
+#[inline(always)]
+fn ticket(
+    settings: &[u64],
+    words: &mut [u64],
+    register: u64,
+    manner: Manner,
+    asking: Asking,
+    verdict: &mut u64,
+) -> u64
+    ensures { Returned settings.now words.old (On register (Ticket manner (handed asking))) result words.new (verdict.old ∷ []) (verdict.new ∷ []) }
+{
+    match strikes::ticket(settings, words, register, manner, asking) {
+        Ok(found) => {
+            *verdict = u64::from(found);
+            0
+        }
+        Err(refusal) => u64::from(refusal),
+    }
+}
+
 // What a ticket is. Nothing of it is remembered.
+// This, strikes_judge_batch, strikes_take and strikes_take_batch are four functions, since C has a name for each manner.
 #[unsafe(no_mangle)]
 pub extern "C" fn strikes_judge(
     settings: &[u64],
@@ -66,17 +88,16 @@ pub extern "C" fn strikes_judge(
     number: u64,
     verdict: &mut u64,
 ) -> u64
-    ensures { Returned settings.now words.old (asking judged register fp stamp reading flag kind number) result words.new (verdict.old ∷ []) (verdict.new ∷ []) }
+    ensures { Returned settings.now words.old (asking Judged register fp stamp reading flag kind number) result words.new (verdict.old ∷ []) (verdict.new ∷ []) }
 {
-    match strikes::judge(
-        settings, words, register, fp, stamp, reading, flag, kind, number,
-    ) {
-        Ok(found) => {
-            *verdict = u64::from(found);
-            0
-        }
-        Err(refusal) => u64::from(refusal),
-    }
+    let asking = Asking {
+        fp,
+        stamp,
+        reading,
+        flag,
+        who: DelivererCode { kind, number },
+    };
+    ticket(settings, words, register, Manner::Judged, asking, verdict)
 }
 
 // As strikes_judge, for a batch: a Late ticket past the window's front is Ahead.
@@ -93,17 +114,23 @@ pub extern "C" fn strikes_judge_batch(
     number: u64,
     verdict: &mut u64,
 ) -> u64
-    ensures { Returned settings.now words.old (asking judged_batch register fp stamp reading flag kind number) result words.new (verdict.old ∷ []) (verdict.new ∷ []) }
+    ensures { Returned settings.now words.old (asking JudgedBatch register fp stamp reading flag kind number) result words.new (verdict.old ∷ []) (verdict.new ∷ []) }
 {
-    match strikes::judge_batch(
-        settings, words, register, fp, stamp, reading, flag, kind, number,
-    ) {
-        Ok(found) => {
-            *verdict = u64::from(found);
-            0
-        }
-        Err(refusal) => u64::from(refusal),
-    }
+    let asking = Asking {
+        fp,
+        stamp,
+        reading,
+        flag,
+        who: DelivererCode { kind, number },
+    };
+    ticket(
+        settings,
+        words,
+        register,
+        Manner::JudgedBatch,
+        asking,
+        verdict,
+    )
 }
 
 // As strikes_judge, and a new ticket is remembered.
@@ -120,17 +147,16 @@ pub extern "C" fn strikes_take(
     number: u64,
     verdict: &mut u64,
 ) -> u64
-    ensures { Returned settings.now words.old (asking taken register fp stamp reading flag kind number) result words.new (verdict.old ∷ []) (verdict.new ∷ []) }
+    ensures { Returned settings.now words.old (asking Taken register fp stamp reading flag kind number) result words.new (verdict.old ∷ []) (verdict.new ∷ []) }
 {
-    match strikes::take(
-        settings, words, register, fp, stamp, reading, flag, kind, number,
-    ) {
-        Ok(found) => {
-            *verdict = u64::from(found);
-            0
-        }
-        Err(refusal) => u64::from(refusal),
-    }
+    let asking = Asking {
+        fp,
+        stamp,
+        reading,
+        flag,
+        who: DelivererCode { kind, number },
+    };
+    ticket(settings, words, register, Manner::Taken, asking, verdict)
 }
 
 // As strikes_take, for a batch: judged as strikes_judge_batch judges it.
@@ -147,17 +173,23 @@ pub extern "C" fn strikes_take_batch(
     number: u64,
     verdict: &mut u64,
 ) -> u64
-    ensures { Returned settings.now words.old (asking taken_batch register fp stamp reading flag kind number) result words.new (verdict.old ∷ []) (verdict.new ∷ []) }
+    ensures { Returned settings.now words.old (asking TakenBatch register fp stamp reading flag kind number) result words.new (verdict.old ∷ []) (verdict.new ∷ []) }
 {
-    match strikes::take_batch(
-        settings, words, register, fp, stamp, reading, flag, kind, number,
-    ) {
-        Ok(found) => {
-            *verdict = u64::from(found);
-            0
-        }
-        Err(refusal) => u64::from(refusal),
-    }
+    let asking = Asking {
+        fp,
+        stamp,
+        reading,
+        flag,
+        who: DelivererCode { kind, number },
+    };
+    ticket(
+        settings,
+        words,
+        register,
+        Manner::TakenBatch,
+        asking,
+        verdict,
+    )
 }
 
 // The rule that gives strikes_take's verdict, the class that it names, and that verdict. The words are only read.
@@ -178,9 +210,14 @@ pub extern "C" fn strikes_explain(
 ) -> u64
     ensures { Read settings.now words.now (explaining register fp stamp reading flag kind number) result (rule.old ∷ class.old ∷ verdict.old ∷ []) (rule.new ∷ class.new ∷ verdict.new ∷ []) }
 {
-    match strikes::explain(
-        settings, words, register, fp, stamp, reading, flag, kind, number,
-    ) {
+    let asking = Asking {
+        fp,
+        stamp,
+        reading,
+        flag,
+        who: DelivererCode { kind, number },
+    };
+    match strikes::explain(settings, words, register, asking) {
         Ok(reason) => {
             *rule = codes::reason_number(reason);
             *class = codes::reason_class(reason);
@@ -208,9 +245,8 @@ pub extern "C" fn strikes_stamp_for(
 ) -> u64
     ensures { Read settings.now words.now (seeking register fp reading flag kind number wanted) result (found.old ∷ stamp.old ∷ []) (found.new ∷ stamp.new ∷ []) }
 {
-    match strikes::stamp_for(
-        settings, words, register, fp, reading, flag, kind, number, wanted,
-    ) {
+    let who = DelivererCode { kind, number };
+    match strikes::stamp_for(settings, words, register, fp, reading, flag, who, wanted) {
         Ok(Some(least)) => {
             *found = 1;
             *stamp = least;
@@ -303,6 +339,7 @@ pub extern "C" fn strikes_close(settings: &[u64], words: &mut [u64]) -> u64
 }
 
 // Writes a register's dump at the start of an output, and leaves what lies behind it: the bytes written.
+// This and strikes_view_register are two functions, since C has a name for each, and each names its own call in its contract.
 #[unsafe(no_mangle)]
 pub extern "C" fn strikes_dump(
     settings: &[u64],
@@ -354,7 +391,7 @@ pub extern "C" fn strikes_view_deliverer(
 ) -> u64
     ensures { Written settings.now words.now (ViewDeliverer kind number out.old) result out.new (written.old ∷ []) (written.new ∷ []) }
 {
-    match strikes::view_deliverer(settings, words, kind, number, out) {
+    match strikes::view_deliverer(settings, words, DelivererCode { kind, number }, out) {
         Ok(length) => {
             *written = length as u64;
             0
@@ -496,7 +533,7 @@ pub extern "C" fn strikes_held(
 ) -> u64
     ensures { Read settings.now words.now (HeldBy kind number) result (entries.old ∷ []) (entries.new ∷ []) }
 {
-    match strikes::held(settings, words, kind, number) {
+    match strikes::held(settings, words, DelivererCode { kind, number }) {
         Ok(count) => {
             *entries = count;
             0

@@ -2,9 +2,12 @@
 use Prim.Native.Nat.{ℕ, ◌-◌, ◌<◌}
 use mathlib.Core.Path.{◌≡◌, sym, subst}
 use mathlib.Core.List.{List}
+use mathlib.Core.Logic.{◌⊎◌, inl, inr}
 use borrow.Rule.Slice.PartMut.{mid_of, put_mid}
 use Rattle.runs.specs.Turns.{silent}
 use Rattle.model.specs.declared.Class.{Class}
+use Rattle.model.specs.declared.Manner.{Manner}
+use Rattle.model.specs.declared.Manner.TheVariants.{Judged, JudgedBatch, Taken, TakenBatch}
 use Rattle.model.specs.declared.Room.{Room}
 use Rattle.model.specs.declared.Settings.{Settings}
 use Rattle.model.specs.declared.Usable.{Usable}
@@ -18,9 +21,9 @@ use Rattle.numbers.specs.RegisterAt.{RegisterAt}
 use Rattle.register.specs.Rules.{judged_register, judge_says, batch_register, batch_says}
 use Rattle.register.specs.Words.{RegisterReads, RegisterTurns}
 use Rattle.taking.specs.declared.tickets.Ticket.{Ticket}
-use Rattle.taking.specs.Rules.{room_for, struck_by, judged_state, judged_says, batch_judged_state, batch_judged_says}
+use Rattle.taking.specs.Rules.{room_for, struck_by, judged_by, judged_state, judged_says}
 use Rattle.taking.specs.Words.{StateReads, StateTurns, RunWords}
-use Rattle.taking.proofs.InRun.{register_reads, register_turns, register_known}
+use Rattle.taking.proofs.InRun.{register_reads, register_turns, register_known, judged_words}
 
 module _ (s : Settings) (r : ℕ) (h : r < s.registers) (p : RegisterExtent) (l : RegisterAt s r p) (ws : List ℕ) where
   abbrev part : List ℕ
@@ -29,17 +32,28 @@ module _ (s : Settings) (r : ℕ) (h : r < s.registers) (p : RegisterExtent) (l 
   abbrev whole : List ℕ → List ℕ
   whole last = put_mid p.start (p.end - p.start) ws last
 
-  pub judge_turns : (a : Ask) (last : List ℕ) (v : Verdict) → RegisterTurns p.u (judged_register p.u a) (judge_says p.u a) part last v
-      → StateTurns s (judged_state s r a) (judged_says s r a) ws (whole last) v
-  judge_turns a last v t =
-      subst (λ (u : Usable). StateTurns s (λ x. with_register r (judged_register u a (register_at r x)) x) (λ x. judge_says u a (register_at r x)) ws (whole last) v)
-      l.usable (register_turns s r h p l t)
+  -- ---- judged: what judge's rule for the manner does, of which the run stays well formed
+  module _ (m : Manner) (a : Ask) (w : RunWords s ws) (last : List ℕ) (v : Verdict) where
+    abbrev JudgedAt : Manner → Type 0
+    JudgedAt n = RunWords s (whole last) × StateTurns s (judged_state s r n a) (judged_says s r n a) ws (whole last) v
 
-  pub batch_turns : (a : Ask) (last : List ℕ) (v : Verdict) → RegisterTurns p.u (batch_register p.u a) (batch_says p.u a) part last v
-      → StateTurns s (batch_judged_state s r a) (batch_judged_says s r a) ws (whole last) v
-  batch_turns a last v t =
-      subst (λ (u : Usable). StateTurns s (λ x. with_register r (batch_register u a (register_at r x)) x) (λ x. batch_says u a (register_at r x)) ws (whole last) v)
-      l.usable (register_turns s r h p l t)
+    judged_in_run : (n : Manner) → RegisterTurns p.u (λ reg. (judged_by p.u n a reg).register) (λ reg. (judged_by p.u n a reg).says) part last v → JudgedAt n
+    judged_in_run n t =
+        let q =
+        subst
+        (λ (u : Usable). StateTurns s (λ x. with_register r (judged_by u n a (register_at r x)).register x) (λ x. (judged_by u n a (register_at r x)).says) ws (whole last) v)
+        l.usable (register_turns s r h p l t) in
+        (judged_words s r h a n ws (whole last) w q, q)
+
+    pub judge_turns : (m ≡ Judged) ⊎ (m ≡ Taken) → RegisterTurns p.u (judged_register p.u a) (judge_says p.u a) part last v → JudgedAt m
+    unfolding judged_by
+    judge_turns (inl e) t = rw e (judged_in_run Judged t)
+    judge_turns (inr e) t = rw e (judged_in_run Taken t)
+
+    pub batch_turns : (m ≡ JudgedBatch) ⊎ (m ≡ TakenBatch) → RegisterTurns p.u (batch_register p.u a) (batch_says p.u a) part last v → JudgedAt m
+    unfolding judged_by
+    batch_turns (inl e) t = rw e (judged_in_run JudgedBatch t)
+    batch_turns (inr e) t = rw e (judged_in_run TakenBatch t)
 
   module _ (k : Ticket) (c : Class) (class : c ≡ class_of k.who) where
     abbrev Fits : Usable → Class → Room → Type 0

@@ -10,6 +10,8 @@ use Rattle.runs.specs.Form.{Form, Exact}
 use Rattle.runs.specs.Turns.{Reads, Turns}
 use Rattle.runs.proofs.Turns.{part_is, part_reads, part_turns, lies_at}
 use Rattle.model.specs.declared.Class.{Class}
+use Rattle.model.specs.declared.Manner.{Manner}
+use Rattle.model.specs.declared.Manner.TheVariants.{Judged, JudgedBatch, Taken, TakenBatch}
 use Rattle.model.specs.declared.Settings.{Settings}
 use Rattle.model.specs.Settings.{usable_at, words_needed}
 use Rattle.model.specs.Class.{pick}
@@ -32,6 +34,7 @@ use Rattle.model.proofs.RegisterWords.{register_exact}
 use Rattle.register.specs.Words.{RegisterWords, RegisterReads, RegisterTurns}
 use Rattle.book.specs.ClassRules.{ClassIs, ClassReads, ClassTurns}
 use Rattle.book.proofs.Finding.{class_is}
+use Rattle.taking.specs.Rules.{judged_by, judged_state}
 use Rattle.taking.specs.Words.{StateReads, StateTurns, RunWords}
 
 -- words hold one value alone: what is so of it is read of them
@@ -122,17 +125,20 @@ module _ (s : Settings) where
         (lies_at k a e start class_ends x w.is.ok ws w.is.words) out v q
 
   -- ---- judged: the run stays well formed
-  module _ (r : ℕ) (h : r < s.registers) (a : Ask) (ws last : List ℕ) (w : RunWords s ws) where
-    pub judged_words : {R : Type 0} {out : State → R} {v : R}
-        → StateTurns s (λ t. with_register r (judge (usable_at s r) (register_at r t) a).register t) out ws last v → RunWords s last
-    judged_words t =
-        let x = w.is.value in
-        let ok = w.is.ok in
-        run_words ws last w (with_register r (judge (usable_at s r) (register_at r x) a).register x)
-        (with_register_ok s r (judge (usable_at s r) (register_at r x) a).register x (judge_ok (usable_at s r) (register_at r x) a (register_in s r x h ok)) ok)
-        (t.does x ok w.is.words).0
+  module _ (r : ℕ) (h : r < s.registers) (a : Ask) where
+    judge_fine : (t : State) → (state_form s).Ok t → (state_form s).Ok (with_register r (judge (usable_at s r) (register_at r t) a).register t)
+    judge_fine t ok =
+        with_register_ok s r (judge (usable_at s r) (register_at r t) a).register t (judge_ok (usable_at s r) (register_at r t) a (register_in s r t h ok)) ok
 
-    pub batch_words : {R : Type 0} {out : State → R} {v : R}
-        → StateTurns s (λ t. with_register r (judge_batch (usable_at s r) (register_at r t) a).register t) out ws last v → RunWords s last
-    unfolding judge_batch
-    batch_words t = judged_words t
+    pub judged_fine : (m : Manner) (t : State) → (state_form s).Ok t → (state_form s).Ok (judged_state s r m a t)
+    unfolding judged_by judge_batch
+    judged_fine Judged = judge_fine
+    judged_fine JudgedBatch = judge_fine
+    judged_fine Taken = judge_fine
+    judged_fine TakenBatch = judge_fine
+
+    pub judged_words : (m : Manner) (ws last : List ℕ) → RunWords s ws → {R : Type 0} {out : State → R} {v : R}
+        → StateTurns s (judged_state s r m a) out ws last v → RunWords s last
+    judged_words m ws last w t =
+        let x = w.is.value in
+        run_words ws last w (judged_state s r m a x) (judged_fine m x w.is.ok) (t.does x w.is.ok w.is.words).0

@@ -3,11 +3,14 @@ use Prim.Native.Nat.{ℕ, ◌<◌}
 use mathlib.Core.Path.{◌≡◌, refl, sym, ap, ◌∙◌}
 use mathlib.Core.Bool.{Bool, true, false, cond}
 use mathlib.Core.List.{List}
+use mathlib.Core.Logic.{◌⊎◌, inl, inr}
 use Rattle.runs.specs.Turns.{silent}
 use lib.Seq.{get_or-set_same, set-get_or, set-set}
 use Rattle.runs.proofs.Cases.{by_test, no}
 use Rattle.model.specs.declared.Draw.{Draw}
 use Rattle.model.specs.declared.Draw.TheVariants.{Granted as Had, Closed, OwnShare, ClassLimit, EqualPart, TwiceLimit, Places, Pairs}
+use Rattle.model.specs.declared.Manner.{Manner}
+use Rattle.model.specs.declared.Manner.TheVariants.{Judged, JudgedBatch, Taken as TakenManner, TakenBatch}
 use Rattle.model.specs.declared.Room.{Room}
 use Rattle.model.specs.declared.Room.TheVariants.{At, Collides, Full as NoSlots}
 use Rattle.model.specs.declared.Settings.{Settings}
@@ -18,19 +21,19 @@ use Rattle.model.specs.Class.{class_of, pick}
 use Rattle.model.specs.Generation.{as_read}
 use Rattle.model.specs.Book.{second_of, granted, draw_says}
 use Rattle.model.specs.Register.{Register}
-use Rattle.model.specs.Judge.{Ask, bucket_of, judge, judge_batch, make_room, Taken, take_room, take_share, take_judged, take, take_batch}
+use Rattle.model.specs.Judge.{Ask, bucket_of, make_room, Taken, take_room, take_share, take_judged, take, take_batch}
 use Rattle.model.specs.Words.{State, state_form}
-use Rattle.model.specs.Calls.{no_register, register_at, with_register, asked, taken, taken_batch, after_taken}
+use Rattle.model.specs.Calls.{Step, no_register, register_at, with_register, asked, after_judged, after_taken}
+use Rattle.model.specs.Answer.{Said}
 use Rattle.model.proofs.Words.{state_exact}
-use Rattle.model.proofs.SoundnessKept.{there, register_in, with_register_ok}
-use Rattle.model.proofs.Judging.{judge_ok}
+use Rattle.model.proofs.SoundnessKept.{there}
 use Rattle.book.specs.declared.Spot.{Spot}
 use Rattle.taking.specs.declared.shares.Share.{Share}
 use Rattle.taking.specs.declared.tickets.Ticket.{Ticket}
 use Rattle.taking.specs.Rules.{Proper, Suits, Granted, share_for, drawn_by, room_for, struck_by, room_verdict, room_state, taken_room, room_says, taken_share}
-use Rattle.taking.specs.Rules.{share_says, left, rest_of, take_says, take_batch_says, judged_state, judged_says, batch_judged_state, batch_judged_says}
+use Rattle.taking.specs.Rules.{share_says, left, rest_of, judged_by, judged_state, judged_says}
 use Rattle.taking.specs.Words.{StateReads, StateTurns, RunWords}
-use Rattle.taking.proofs.InRun.{known, known_turns}
+use Rattle.taking.proofs.InRun.{known, known_turns, judged_fine}
 use Rattle.taking.proofs.Draws.{drawn_fine}
 
 -- a draw that is granted is no other
@@ -198,40 +201,41 @@ module _ (s : Settings) (r : ℕ) where
           → (rest_of s r a v (with_register r reg t)).says ≡ (take_judged (usable_at s r) s.shares a t.book reg v).says
       after_says t ok reg v = rw (get_or-set_same t.registers r reg no_register (there s r t ok h))
 
-      judged_fine : (t : State) → (state_form s).Ok t → (state_form s).Ok (judged_state s r a t)
-      judged_fine t ok =
-          with_register_ok s r (judge (usable_at s r) (register_at r t) a).register t (judge_ok (usable_at s r) (register_at r t) a (register_in s r t h ok)) ok
+      -- ---- asked about: in a manner that only judges, and in one that takes
+      only_judges : (m : Manner) → (m ≡ Judged) ⊎ (m ≡ JudgedBatch) → (t : State)
+          → asked s r m a t ≡ after_judged r t (judged_by (usable_at s r) m a (register_at r t))
+      unfolding asked judged_by
+      only_judges m (inl e) t = rw e
+      only_judges m (inr e) t = rw e
 
-      pub take_turns : (ws mid last : List ℕ) (verdict v : Verdict) → StateTurns s (judged_state s r a) (judged_says s r a) ws mid verdict
-          → StateTurns s (λ t. left r (rest_of s r a verdict t) t) (λ t. (rest_of s r a verdict t).says) mid last v
-          → StateTurns s (λ t. (asked s r taken a t).state) (take_says s r a) ws last v
-      unfolding asked after_taken take
-      take_turns ws mid last verdict v one two = record {
-        does = λ t ok is.
-            let j = judge (usable_at s r) (register_at r t) a in
-            let p = one.does t ok is in
-            let q = two.does (judged_state s r a t) (judged_fine t ok) p.0 in (
-              q.0 ∙ ap (state_form s).enc (after_judge t ok j.register verdict
-                  ∙ ap (λ (z : Verdict). left r (take_judged (usable_at s r) s.shares a t.book j.register z) t) p.1),
-              q.1 ∙ after_says t ok j.register verdict ∙ ap (λ (z : Verdict). (take_judged (usable_at s r) s.shares a t.book j.register z).says) p.1,
-            );
+      pub judged_only : (m : Manner) → (m ≡ Judged) ⊎ (m ≡ JudgedBatch) → (ws last : List ℕ) (v : Verdict)
+          → StateTurns s (judged_state s r m a) (judged_says s r m a) ws last v
+          → StateTurns s (λ t. (asked s r m a t).state) (λ t. (asked s r m a t).answer) ws last (Said v)
+      unfolding after_judged
+      judged_only m only ws last v one = record {
+        does = λ t ok is. let p = one.does t ok is in let k = only_judges m only t in (rw k p.0, rw (k, p.1));
       }
 
-      batch_fine : (t : State) → (state_form s).Ok t → (state_form s).Ok (batch_judged_state s r a t)
-      unfolding judge_batch
-      batch_fine t ok = judged_fine t ok
+      takes_too : (m : Manner) → (m ≡ TakenManner) ⊎ (m ≡ TakenBatch) → (t : State) → let j = judged_by (usable_at s r) m a (register_at r t) in
+          asked s r m a t ≡ after_taken r t (take_judged (usable_at s r) s.shares a t.book j.register j.says)
+      unfolding asked judged_by take take_batch
+      takes_too m (inl e) t = rw e
+      takes_too m (inr e) t = rw e
 
-      pub take_batch_turns : (ws mid last : List ℕ) (verdict v : Verdict) → StateTurns s (batch_judged_state s r a) (batch_judged_says s r a) ws mid verdict
+      pub judged_taken : (m : Manner) → (m ≡ TakenManner) ⊎ (m ≡ TakenBatch) → (ws mid last : List ℕ) (verdict v : Verdict)
+          → StateTurns s (judged_state s r m a) (judged_says s r m a) ws mid verdict
           → StateTurns s (λ t. left r (rest_of s r a verdict t) t) (λ t. (rest_of s r a verdict t).says) mid last v
-          → StateTurns s (λ t. (asked s r taken_batch a t).state) (take_batch_says s r a) ws last v
-      unfolding asked after_taken take_batch
-      take_batch_turns ws mid last verdict v one two = record {
+          → StateTurns s (λ t. (asked s r m a t).state) (λ t. (asked s r m a t).answer) ws last (Said v)
+      unfolding after_taken
+      judged_taken m takes ws mid last verdict v one two = record {
         does = λ t ok is.
-            let j = judge_batch (usable_at s r) (register_at r t) a in
+            let j = judged_by (usable_at s r) m a (register_at r t) in
             let p = one.does t ok is in
-            let q = two.does (batch_judged_state s r a t) (batch_fine t ok) p.0 in (
+            let q = two.does (judged_state s r m a t) (judged_fine s r h a m t ok) p.0 in
+            let k = takes_too m takes t in (
               q.0 ∙ ap (state_form s).enc (after_judge t ok j.register verdict
-                  ∙ ap (λ (z : Verdict). left r (take_judged (usable_at s r) s.shares a t.book j.register z) t) p.1),
-              q.1 ∙ after_says t ok j.register verdict ∙ ap (λ (z : Verdict). (take_judged (usable_at s r) s.shares a t.book j.register z).says) p.1,
+                  ∙ ap (λ (z : Verdict). left r (take_judged (usable_at s r) s.shares a t.book j.register z) t) p.1 ∙ sym (ap (λ (z : Step). z.state) k)),
+              ap Said (q.1 ∙ after_says t ok j.register verdict
+                  ∙ ap (λ (z : Verdict). (take_judged (usable_at s r) s.shares a t.book j.register z).says) p.1) ∙ sym (ap (λ (z : Step). z.answer) k),
             );
       }

@@ -3,6 +3,8 @@ use Rattle.std.specs.Prelude.{ℕ, ◌≤◌, ◌<◌, ◌≡◌, Bool, cond, Li
 use Rattle.model.specs.declared.Deliverer.{Deliverer}
 use Rattle.model.specs.declared.Draw.TheVariants.{Granted as Had}
 use Rattle.model.specs.declared.Limits.{Limits}
+use Rattle.model.specs.declared.Manner.{Manner}
+use Rattle.model.specs.declared.Manner.TheVariants.{Judged, JudgedBatch, Taken as TakenManner, TakenBatch}
 use Rattle.model.specs.declared.Room.{Room}
 use Rattle.model.specs.declared.Room.TheVariants.{At, Collides, Full as NoSlots}
 use Rattle.model.specs.declared.Settings.{Settings}
@@ -15,8 +17,8 @@ use Rattle.model.specs.Settings.{usable_at}
 use Rattle.model.specs.Class.{class_of, pick}
 use Rattle.model.specs.Generation.{as_read}
 use Rattle.model.specs.Book.{Place, second_of, granted, draw_test, drawn, places_of}
-use Rattle.model.specs.Register.{strike}
-use Rattle.model.specs.Judge.{Ask, bucket_of, judge, judge_batch, make_room, Taken, take_judged, take, take_batch}
+use Rattle.model.specs.Register.{Register, strike}
+use Rattle.model.specs.Judge.{Ask, bucket_of, Judgement, judge, judge_batch, make_room, Taken, take_judged}
 use Rattle.model.specs.Words.{State}
 use Rattle.model.specs.Calls.{register_at, with_register, with_book}
 use Rattle.book.specs.declared.Spot.{Spot}
@@ -68,17 +70,18 @@ room_verdict Collides = Late
 room_verdict NoSlots = Full
 
 -- ---- judged, and taken
-abbrev pub judged_state : Settings → ℕ → Ask → State → State
-judged_state s r a t = with_register r (judge (usable_at s r) (register_at r t) a).register t
+-- judge's rule for a ticket that is asked about in this manner: a take judges first
+unfoldable pub judged_by : Usable → Manner → Ask → Register → Judgement
+judged_by u Judged a reg = judge u reg a
+judged_by u JudgedBatch a reg = judge_batch u reg a
+judged_by u TakenManner a reg = judge u reg a
+judged_by u TakenBatch a reg = judge_batch u reg a
 
-abbrev pub judged_says : Settings → ℕ → Ask → State → Verdict
-judged_says s r a t = (judge (usable_at s r) (register_at r t) a).says
+abbrev pub judged_state : Settings → ℕ → Manner → Ask → State → State
+judged_state s r m a t = with_register r (judged_by (usable_at s r) m a (register_at r t)).register t
 
-abbrev pub batch_judged_state : Settings → ℕ → Ask → State → State
-batch_judged_state s r a t = with_register r (judge_batch (usable_at s r) (register_at r t) a).register t
-
-abbrev pub batch_judged_says : Settings → ℕ → Ask → State → Verdict
-batch_judged_says s r a t = (judge_batch (usable_at s r) (register_at r t) a).says
+abbrev pub judged_says : Settings → ℕ → Manner → Ask → State → Verdict
+judged_says s r m a t = (judged_by (usable_at s r) m a (register_at r t)).says
 
 -- with a share to be had: by the room that there is
 unfoldable pub room_state : Settings → ℕ → Ticket → State → Room → State
@@ -106,9 +109,3 @@ left r k t = with_book k.book (with_register r k.register t)
 -- a register as judge left it, with the verdict
 abbrev pub rest_of : Settings → ℕ → Ask → Verdict → State → Taken
 rest_of s r a v t = take_judged (usable_at s r) s.shares a t.book (register_at r t) v
-
-abbrev pub take_says : Settings → ℕ → Ask → State → Verdict
-take_says s r a t = (take (usable_at s r) s.shares (register_at r t) t.book a).says
-
-abbrev pub take_batch_says : Settings → ℕ → Ask → State → Verdict
-take_batch_says s r a t = (take_batch (usable_at s r) s.shares (register_at r t) t.book a).says

@@ -1,4 +1,4 @@
-// Take: a ticket is judged, and a new one is drawn from its deliverer's share and struck, in the whole run of words that the
+// Ask: a ticket is judged, and for a take a new one is drawn from its deliverer's share and struck, in the whole run of words that the
 // settings need: the front, the share book and the registers.
 #![tactic(auto)]
 
@@ -9,14 +9,15 @@ mod shares;
 mod tickets;
 
 ghost use Rattle.std.specs.Prelude.{◌≡◌, ◌<◌};
-ghost use Rattle.model.specs.Calls.{asked, taken, taken_batch};
+ghost use Rattle.model.specs.Answer.{Said};
+ghost use Rattle.model.specs.Calls.{asked};
 ghost use Rattle.register.specs.Rules.{asked_by};
-ghost use Rattle.taking.specs.Rules.{Proper, Granted, room_verdict, taken_room, room_says, taken_share, share_says, left, rest_of, take_says, take_batch_says};
+ghost use Rattle.taking.specs.Rules.{Proper, Granted, room_verdict, taken_room, room_says, taken_share, share_says, left, rest_of};
 ghost use Rattle.taking.specs.Words.{RunWords, StateTurns};
 
 use book::{Spot, decide};
 pub use explaining::{explain, explain_seen};
-use model::{Room, Settings, Verdict};
+use model::{Manner, Room, Settings, Verdict};
 use numbers::starts;
 pub use on_register::see;
 pub use one_register::OneRegister;
@@ -71,30 +72,19 @@ fn take_judged(run: &mut [u64], on: &OneRegister, ask: Ask, verdict: Verdict) ->
     }
 }
 
-// As `judge`, and a new ticket is remembered, charged to its deliverer's share.
-pub fn take(run: &mut [u64], s: Settings, r: usize, ask: Ask) -> Verdict
+// A ticket is asked about: it is judged, and where the manner takes, a new one is remembered, charged to its deliverer's share.
+pub fn ask(run: &mut [u64], s: Settings, r: usize, manner: Manner, ask: Ask) -> Verdict
     requires { RunWords s run.old × (r < s.registers) }
-    ensures { StateTurns s (λ t. (asked s r taken (asked_by ask) t).state) (take_says s r (asked_by ask)) run.old run.new result }
+    ensures { StateTurns s (λ t. (asked s r manner (asked_by ask) t).state) (λ t. (asked s r manner (asked_by ask) t).answer) run.old run.new (Said result) }
 {
     let on = OneRegister {
         s,
         r,
         extent: starts::register_extent(s, r),
     };
-    let verdict = on_register::judge(run, &on, ask);
-    take_judged(run, &on, ask, verdict)
-}
-
-// As `take`, for a batch: judged as `judge_batch` judges it.
-pub fn take_batch(run: &mut [u64], s: Settings, r: usize, ask: Ask) -> Verdict
-    requires { RunWords s run.old × (r < s.registers) }
-    ensures { StateTurns s (λ t. (asked s r taken_batch (asked_by ask) t).state) (take_batch_says s r (asked_by ask)) run.old run.new result }
-{
-    let on = OneRegister {
-        s,
-        r,
-        extent: starts::register_extent(s, r),
-    };
-    let verdict = on_register::judge_batch(run, &on, ask);
-    take_judged(run, &on, ask, verdict)
+    let verdict = on_register::judge(run, &on, manner, ask);
+    match manner {
+        Manner::Judged | Manner::JudgedBatch => verdict,
+        Manner::Taken | Manner::TakenBatch => take_judged(run, &on, ask, verdict),
+    }
 }

@@ -2,28 +2,26 @@
 ghost use Rattle.runs.specs.Turns.{silent};
 ghost use Rattle.register.specs.Rules.{asked_by};
 ghost use Rattle.ring.specs.Ring.{found_at};
-ghost use Rattle.taking.specs.Rules.{Proper, room_for, struck_by, judged_state, judged_says, batch_judged_state, batch_judged_says};
+ghost use Rattle.taking.specs.Rules.{Proper, room_for, struck_by, judged_state, judged_says};
 ghost use Rattle.taking.specs.Reasons.{SeenAt, seen_at, judge_reason, room_seen};
 ghost use Rattle.taking.specs.Words.{RunWords, StateReads, StateTurns};
 
 use crate::one_register::OneRegister;
 use crate::tickets::Ticket;
-use model::{Judged, Reason, Room, Verdict};
+use model::{Judged, Manner, Reason, Room, Verdict};
 use numbers::codes;
 use register::{Ask, Seen};
 
-pub fn judge(run: &mut [u64], on: &OneRegister, ask: Ask) -> Verdict
+// What the ticket is: a take judges first, and for a batch it is judged as `judge_batch` judges it.
+pub fn judge(run: &mut [u64], on: &OneRegister, manner: Manner, ask: Ask) -> Verdict
     requires { RunWords on.now.s run.old }
-    ensures { RunWords on.now.s run.new × StateTurns on.now.s (judged_state on.now.s on.now.r (asked_by ask)) (judged_says on.now.s on.now.r (asked_by ask)) run.old run.new result }
+    ensures { RunWords on.now.s run.new × StateTurns on.now.s (judged_state on.now.s on.now.r manner (asked_by ask)) (judged_says on.now.s on.now.r manner (asked_by ask)) run.old run.new result }
 {
-    register::judge(&mut run[on.extent.start..on.extent.end], on.extent.u, ask)
-}
-
-pub fn judge_batch(run: &mut [u64], on: &OneRegister, ask: Ask) -> Verdict
-    requires { RunWords on.now.s run.old }
-    ensures { RunWords on.now.s run.new × StateTurns on.now.s (batch_judged_state on.now.s on.now.r (asked_by ask)) (batch_judged_says on.now.s on.now.r (asked_by ask)) run.old run.new result }
-{
-    register::judge_batch(&mut run[on.extent.start..on.extent.end], on.extent.u, ask)
+    let part = &mut run[on.extent.start..on.extent.end];
+    match manner {
+        Manner::Judged | Manner::Taken => register::judge(part, on.extent.u, ask),
+        Manner::JudgedBatch | Manner::TakenBatch => register::judge_batch(part, on.extent.u, ask),
+    }
 }
 
 // The room for a ticket in its class's ring.

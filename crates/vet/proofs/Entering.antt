@@ -6,7 +6,7 @@ use mathlib.Core.Bool.{Bool, true, false}
 use mathlib.Core.List.{List, ◌++◌}
 use lib.ListN.{length}
 use lib.Dec.{eqb}
-use borrow.Author.Tests.{eqb-true, eq-eqb, ne_eqb, le-ltb, lt-ltb}
+use borrow.Author.Tests.{eqb-true, eq-eqb, le-ltb, lt-ltb}
 use Rattle.runs.proofs.Cases.{by_test, both_true}
 use Rattle.std.proofs.Common.{Result}
 use Rattle.std.specs.Result.{IsErrAnd}
@@ -29,15 +29,7 @@ words_fit st t =
 
 -- ---- the settings alone
 module _ (st : List ℕ) where
-  pub other_width : (length st ≡ 29 → ⊥) → 1 ≡ unfit_alone st
-  unfolding unfit_alone first_met settings_words_fit
-  other_width h = rw (ne_eqb _ _ h)
-
   module _ (w : length st ≡ 29) {s : Settings} (same : s ≡ settings_of st) {b : Bool} (t : b ≡ settings_fit s) where
-    pub out_of_bounds : b ≡ false → 1 ≡ unfit_alone st
-    unfolding unfit_alone first_met settings_words_fit
-    out_of_bounds f = rw (eq-eqb _ _ w, ← same, ← t, f)
-
     pub in_bounds : b ≡ true → {need : ℕ} → need ≡ words_needed s → Ready st (unfit_alone st) need
     unfolding unfit_alone first_met settings_words_fit
     in_bounds f e = record {

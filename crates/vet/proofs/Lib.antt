@@ -2,3 +2,4 @@ pub mod Bounds
 pub mod Tests
 pub mod Turns
 pub mod Entering
+pub mod Starting

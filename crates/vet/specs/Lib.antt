@@ -1,2 +1,3 @@
 pub mod Vetted
 pub mod Entries
+pub mod Starts

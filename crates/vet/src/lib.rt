@@ -3,7 +3,6 @@
 // None writes, and nothing above this crate tests settings or soundness again.
 #![tactic(auto)]
 
-ghost use Rattle.std.specs.Prelude.{◌≡◌};
 ghost use Rattle.vet.specs.Vetted.{unfit_alone, vetted};
 ghost use Rattle.vet.specs.Entries.{Enters, EntersWithin};
 
@@ -13,7 +12,7 @@ use numbers::{bounds, starts};
 mod handed;
 mod sound;
 
-pub use handed::{limits_of, starts_fit};
+pub use handed::{limits_of, starts_of};
 
 // Settings of 29 words, each in its bounds, or 1: the words that they need. The settings themselves are read by whoever needs them:
 // 29 numbers by value would cost more than reading them again.

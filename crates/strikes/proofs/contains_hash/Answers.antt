@@ -3,8 +3,8 @@ use mathlib.Core.Path.{refl}
 use Rattle.model.specs.Generation.{as_read}
 use Rattle.model.specs.Register.{any_class, holds_any}
 use Rattle.model.specs.Calls.{ContainsHash, yes_no, deed_fits, deed_refusals, done_on}
-use Rattle.strikes.proofs.Deeds.{Tells, told_by}
-use Rattle.strikes.proofs.OnRegister.{deed_refused, words_there}
+use Rattle.strikes.proofs.Deeds.{Tells, told_by, reader_refused}
+use Rattle.strikes.proofs.OnRegister.{words_there}
 use Rattle.strikes.proofs.contains_hash.Goals as goal
 
 tells : (fp : ℕ) → Tells (ContainsHash fp) yes_no (λ u reg. any_class (holds_any (as_read fp)) reg.rings)
@@ -12,8 +12,7 @@ unfolding deed_fits deed_refusals done_on
 tells fp = record { fits = refl; never = λ reg. refl; says = λ s r t. refl }
 
 pub returns-in_err-at : goal.returns-in_err-at
-unfolding deed_fits
-returns-in_err-at c = (deed_refused yes_no _ _ _ _ _ _ c.from_residual.ensures.1 refl c.in_err-at.ensures).answer
+returns-in_err-at c = reader_refused _ _ _ (tells _) _ _ c.from_residual.ensures.1 c.in_err-at.ensures
 
 pub contains_hash-requires : goal.contains_hash-requires
 contains_hash-requires c = words_there c.in_ok-at.ensures

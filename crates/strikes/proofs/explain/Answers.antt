@@ -3,7 +3,7 @@ use Rattle.model.specs.Calls.{deed_fits}
 use Rattle.model.proofs.Refused.{listed_ok}
 use Rattle.strikes.proofs.Entering.{long_settings}
 use Rattle.strikes.proofs.OnRegister.{code_refused, deed_refused}
-use Rattle.strikes.proofs.OnWhole.{run_there, register_there}
+use Rattle.strikes.proofs.OnWhole.{run_there}
 use Rattle.strikes.proofs.Runs.{was_explained}
 use Rattle.strikes.proofs.explain.Goals as goal
 
@@ -19,7 +19,7 @@ pub settings_of-s-requires : goal.settings_of-s-requires
 settings_of-s-requires c = long_settings c.in_ok-need.ensures.enters
 
 pub explain-requires : goal.explain-requires
-explain-requires c = let by = c.in_ok-need.ensures in let read = c.settings_of-s.ensures in (run_there by read, register_there by read)
+explain-requires c = run_there c.in_ok-need.ensures c.settings_of-s.ensures
 
 pub returns : goal.returns
 returns c = was_explained _ _ _ _ _ _ _ _ c.in_ok-need.ensures c.settings_of-s.ensures c.in_ok-ask.ensures search

@@ -1,13 +1,9 @@
-use mathlib.Core.Path.{refl}
-use Rattle.model.specs.Calls.{deed_fits}
-use Rattle.strikes.specs.Calls.{floor_heard}
-use Rattle.strikes.proofs.OnRegister.{deed_refused, words_least}
-use Rattle.strikes.proofs.Deeds.{told_by, tells_floor}
+use Rattle.strikes.proofs.OnRegister.{words_least}
+use Rattle.strikes.proofs.Deeds.{told_by, reader_refused, tells_floor}
 use Rattle.strikes.proofs.floor.Goals as goal
 
 pub returns-in_err-at : goal.returns-in_err-at
-unfolding deed_fits
-returns-in_err-at c = (deed_refused floor_heard _ _ _ _ _ _ c.from_residual.ensures.1 refl c.in_err-at.ensures).answer
+returns-in_err-at c = reader_refused _ _ _ tells_floor _ _ c.from_residual.ensures.1 c.in_err-at.ensures
 
 pub floor-requires : goal.floor-requires
 floor-requires c = words_least c.in_ok-at.ensures

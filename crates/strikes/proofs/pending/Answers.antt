@@ -1,7 +1,7 @@
 use mathlib.Core.Path.{refl}
 use Rattle.model.specs.Calls.{Pending, yes_no, deed_fits, deed_refusals, done_on}
-use Rattle.strikes.proofs.Deeds.{Tells, told_by}
-use Rattle.strikes.proofs.OnRegister.{deed_refused, words_least}
+use Rattle.strikes.proofs.Deeds.{Tells, told_by, reader_refused}
+use Rattle.strikes.proofs.OnRegister.{words_least}
 use Rattle.strikes.proofs.pending.Goals as goal
 
 tells : Tells Pending yes_no (λ u reg. reg.pending)
@@ -9,8 +9,7 @@ unfolding deed_fits deed_refusals done_on
 tells = record { fits = refl; never = λ reg. refl; says = λ s r t. refl }
 
 pub returns-in_err-at : goal.returns-in_err-at
-unfolding deed_fits
-returns-in_err-at c = (deed_refused yes_no _ _ _ _ _ _ c.from_residual.ensures.1 refl c.in_err-at.ensures).answer
+returns-in_err-at c = reader_refused _ _ _ tells _ _ c.from_residual.ensures.1 c.in_err-at.ensures
 
 pub is_pending-requires : goal.is_pending-requires
 is_pending-requires c = words_least c.in_ok-at.ensures

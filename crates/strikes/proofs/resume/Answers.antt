@@ -3,7 +3,7 @@ use Rattle.model.proofs.Refused.{listed_ok}
 use Rattle.strikes.specs.Calls.{restored_heard}
 use Rattle.strikes.proofs.Entering.{long_settings}
 use Rattle.strikes.proofs.OnRegister.{code_refused, deed_refused}
-use Rattle.strikes.proofs.OnWhole.{run_there, register_there}
+use Rattle.strikes.proofs.OnWhole.{run_there}
 use Rattle.strikes.proofs.OnRestore.{resume_cut, length_read, whole_dump, within_bytes, was_resumed}
 use Rattle.strikes.proofs.resume.Goals as goal
 
@@ -23,9 +23,7 @@ settings_of-s-requires c = long_settings c.in_ok-need.ensures.enters
 
 pub resume-whole-requires : goal.resume-whole-requires
 resume-whole-requires c =
-    let by = c.in_ok-need.ensures in
-    let read = c.settings_of-s.ensures in
-    ((run_there by read, register_there by read), whole_dump _ c.read_lengths.ensures (length_read _ c.in_ok-long.ensures.value))
+    (run_there c.in_ok-need.ensures c.settings_of-s.ensures, whole_dump _ c.read_lengths.ensures (length_read _ c.in_ok-long.ensures.value))
 
 pub told_restored-requires : goal.told_restored-requires
 told_restored-requires c = within_bytes _ c.read_lengths.ensures (length_read _ c.in_ok-long.ensures.value)

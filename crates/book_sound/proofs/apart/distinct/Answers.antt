@@ -1,17 +1,6 @@
-use mathlib.Core.Path.{refl, ◌∙◌}
-use Rattle.book_sound.proofs.Chunks.{room_for, cut_off}
-use Rattle.book_sound.proofs.Twice.{apart_start, apart_end, apart_none, apart_met, apart_on}
+use Rattle.book_sound.proofs.Chunks.{cut_off}
+use Rattle.book_sound.proofs.Twice.{apart_end, apart_none, apart_met, apart_on}
 use Rattle.book_sound.proofs.apart.distinct.Goals as goal
-
-pub loop-place-init : goal.loop-place-init
-loop-place-init c =
-    let items = c.chunks_exact-place-items.ensures in
-    rw (c.into_iter-place-iterator.ensures.into_iter_gives, items.rest) (apart_start _ _ _ (items.size ∙ c.place_width-width.ensures.0), refl)
-
-pub slice_bounds-later-count : goal.slice_bounds-later-count
-slice_bounds-later-count c =
-    let i = c.loop-place.invariant in
-    room_for c.args.shares c.args.class _ _ c.in-Some.ensures.steps.1 i.0.wide c.place_width-width.ensures.0 i.1
 
 pub returns-then-not-in_use : goal.returns-then-not-in_use
 returns-then-not-in_use c = apart_none c.loop-place.invariant.0 _ _ c.in-Some.ensures.steps.1 c.if-not-in_use.ensures

@@ -1,11 +1,5 @@
-use mathlib.Core.Path.{◌∙◌}
-use Rattle.book_sound.proofs.Twice.{seeks_start, seeks_end, seeks_none, seeks_hit, seeks_on}
+use Rattle.book_sound.proofs.Twice.{seeks_end, seeks_none, seeks_hit, seeks_on}
 use Rattle.book_sound.proofs.apart.has_who.Goals as goal
-
-pub loop-other-init : goal.loop-other-init
-loop-other-init c =
-    let items = c.chunks_exact-other-items.ensures in
-    rw (c.into_iter-other-iterator.ensures.into_iter_gives, items.rest) (seeks_start _ _ _ _ (items.size ∙ c.place_width.ensures.0))
 
 pub returns-then-not-in_use : goal.returns-then-not-in_use
 returns-then-not-in_use c = seeks_none c.loop-other.invariant _ _ c.in-Some.ensures.steps.1 c.if-not-in_use.ensures

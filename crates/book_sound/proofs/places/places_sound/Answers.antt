@@ -1,6 +1,6 @@
 use mathlib.Core.Path.{refl, ◌∙◌}
 use native.Mathlib.Omega.{arith}
-use Rattle.book_sound.proofs.Chunks.{room_for, cut_off}
+use Rattle.book_sound.proofs.Chunks.{cut_off}
 use Rattle.book_sound.proofs.Adding.{adds_start, place_few, adds_end, adds_stop, adds_not, adds_on}
 use Rattle.book_sound.proofs.places.places_sound.Goals as goal
 
@@ -33,11 +33,6 @@ overflow_add-sums-in-loop-place-3 c =
     let f = place_few c.loop-place.invariant.0 _ c.if-not-place_sound.ensures in
     let u = c.units_of.ensures.0 in
     record { fits = omega arith }
-
-pub slice_bounds-left-count : goal.slice_bounds-left-count
-slice_bounds-left-count c =
-    let i = c.loop-place.invariant in
-    room_for c.args.shares c.args.class _ _ c.in-Some.ensures.steps.1 i.0.wide c.place_width-width.ensures.0 i.1
 
 pub loop-place-preserved : goal.loop-place-preserved
 loop-place-preserved c =

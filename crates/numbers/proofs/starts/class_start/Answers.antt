@@ -8,12 +8,12 @@ pub class_width-requires : goal.class_width-requires
 class_width-requires c = fit_shares c.args.s c.requires
 
 pub overflow_mul-result : goal.overflow_mul-result
-overflow_mul-result c = let k = product_few c.args.class _ _ class_most c.class_number.ensures c.class_width.ensures.1 in omega arith
+overflow_mul-result c = let k = product_few c.args.class _ _ class_most c.from.ensures c.class_width.ensures.1 in omega arith
 
 pub overflow_add-result : goal.overflow_add-result
-overflow_add-result c = let k = product_few c.args.class _ _ class_most c.class_number.ensures c.class_width.ensures.1 in omega arith
+overflow_add-result c = let k = product_few c.args.class _ _ class_most c.from.ensures c.class_width.ensures.1 in omega arith
 
 pub returns : goal.returns
 returns c =
     let s = c.args in
-    (rw (c.class_number.ensures, c.class_width.ensures.0), rw (c.class_number.ensures, c.class_width.ensures.0) (class_within s.s s.class))
+    (rw (c.from.ensures, c.class_width.ensures.0), rw (c.from.ensures, c.class_width.ensures.0) (class_within s.s s.class))

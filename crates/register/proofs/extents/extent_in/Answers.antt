@@ -6,13 +6,13 @@ use Rattle.model.specs.Most.{ring_most}
 use Rattle.register.proofs.extents.extent_in.Goals as goal
 
 pub overflow_mul-start : goal.overflow_mul-start
-overflow_mul-start c = let k = product_few c.args.class _ _ ring_most c.class_number-number.ensures c.requires.few in omega arith
+overflow_mul-start c = let k = product_few c.args.class _ _ ring_most c.from-number.ensures c.requires.few in omega arith
 
 pub overflow_add-start : goal.overflow_add-start
-overflow_add-start c = let k = product_few c.args.class _ _ ring_most c.class_number-number.ensures c.requires.few in omega arith
+overflow_add-start c = let k = product_few c.args.class _ _ ring_most c.from-number.ensures c.requires.few in omega arith
 
 pub overflow_add-result : goal.overflow_add-result
-overflow_add-result c = let k = product_few c.args.class _ _ ring_most c.class_number-number.ensures c.requires.few in omega arith
+overflow_add-result c = let k = product_few c.args.class _ _ ring_most c.from-number.ensures c.requires.few in omega arith
 
 pub returns : goal.returns
-returns c = placed _ _ c.args.rings _ _ c.requires c.class_number-number.ensures refl
+returns c = placed _ _ c.args.rings _ _ c.requires c.from-number.ensures refl

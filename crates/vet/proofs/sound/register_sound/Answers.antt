@@ -2,13 +2,8 @@
 use native.Mathlib.Omega.{arith}
 use mathlib.Core.Path.{refl, sym, ◌∙◌}
 use Rattle.model.specs.RegisterWords.{heading_form, each_form, ring_form}
-use Rattle.vet.proofs.Tests.{first_not, first_on}
+use Rattle.vet.proofs.Tests.{first_on}
 use Rattle.vet.proofs.sound.register_sound.Goals as goal
-
-pub returns-then-not-heading_sound : goal.returns-then-not-heading_sound
-returns-then-not-heading_sound c =
-    first_not (heading_form c.args.u) (each_form (λ _. ring_form c.args.u)) c.args.register.now 24 refl (let l = c.requires.1 in omega arith)
-    (sym c.if-not-heading_sound.true ∙ c.heading_sound.ensures)
 
 pub returns : goal.returns
 returns c =

@@ -1,15 +1,12 @@
 use native.Mathlib.Omega.{arith}
 use mathlib.Core.Path.{◌∙◌}
-use Rattle.runs.proofs.Walk.{pass_start, pass_end}
+use Rattle.runs.proofs.Walk.{pass_end}
 use Rattle.model.specs.Words.{unused_width}
 use Rattle.model.proofs.Bounds.{fit_usable}
 use Rattle.model.proofs.Words.{registers≤4}
 use Rattle.vet.proofs.Tests.{row_then}
 use Rattle.vet.proofs.Turns.{form_at, turn_inside, turn_long, turn_on}
 use Rattle.vet.proofs.sound.registers_sound.Goals as goal
-
-pub loop-i-init : goal.loop-i-init
-loop-i-init c = pass_start _ _ _
 
 pub usable_in-u-requires : goal.usable_in-u-requires
 usable_in-u-requires c = let m = registers≤4 c.args.s c.requires.0 in omega arith
@@ -20,14 +17,6 @@ register_width-requires c =
     let pre = c.requires in
     let loop = c.loop-i in
     rw c.usable_in-u.ensures (fit_usable s.s loop.i pre.0 (omega arith))
-
-pub overflow_add-e : goal.overflow_add-e
-overflow_add-e c =
-    let s = c.args in
-    let pre = c.requires in
-    let loop = c.loop-i in
-    let k = turn_inside s.s s.words.now pre.1 _ _ _ loop.invariant (omega arith) _ (c.register_width.ensures.0 ∙ rw c.usable_in-u.ensures) in
-    omega arith
 
 pub slice_bounds-register_sound-end : goal.slice_bounds-register_sound-end
 slice_bounds-register_sound-end c =

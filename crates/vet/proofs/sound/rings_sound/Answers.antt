@@ -3,7 +3,7 @@ use mathlib.Core.Path.{refl}
 use Rattle.model.specs.RegisterWords.{ring_form}
 use Rattle.model.specs.Words.{ring_width}
 use Rattle.vet.proofs.Bounds.{ring_sized}
-use Rattle.vet.proofs.Tests.{each_test, first_long, second_long, third_long}
+use Rattle.vet.proofs.Tests.{first_long, second_long, third_long}
 use Rattle.vet.proofs.sound.rings_sound.Goals as goal
 
 pub is_sound-feeders-requires : goal.is_sound-feeders-requires
@@ -25,13 +25,3 @@ is_sound-own-requires c =
     let ring-width-2 = c.ring_width-a in
     ring_sized c.args.u c.requires.0 _ ring_of.ensures _
     (third_long (λ _. ring_form c.args.u) (ring_width c.args.u) (λ _. refl) c.args.rings.now c.requires.1 _ _ ring-width-2.ensures.0 refl)
-
-pub returns : goal.returns
-returns c =
-    let ring_of = c.ring_of-n in
-    let ring-width-2 = c.ring_width-a in
-    let is-sound = c.is_sound-feeders in
-    let is-sound2 = c.is_sound-peers in
-    let e = ring_of.ensures in
-    each_test (λ _. ring_form c.args.u) (ring_width c.args.u) (λ _. refl) c.args.rings.now c.requires.1 _ _ ring-width-2.ensures.0 refl _ _ _
-    (rw e at is-sound.ensures) (rw e at is-sound2.ensures) (rw e at c.is_sound-own.ensures)

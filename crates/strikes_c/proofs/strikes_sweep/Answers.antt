@@ -1,5 +1,0 @@
-use Rattle.strikes_c.proofs.Sending.{done_out}
-use Rattle.strikes_c.proofs.strikes_sweep.Goals as goal
-
-pub returns : goal.returns
-returns c = done_out _ c.status.ensures c.sweep.ensures
