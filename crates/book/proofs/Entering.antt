@@ -2,10 +2,10 @@
 use Prim.Native.Nat.{ℕ, zero, suc, ◌+◌, ◌-◌, ◌*◌, ◌<◌, ◌≤◌}
 use native.Mathlib.Nat.{suc-mul, mul-le-mul_right}
 use native.Mathlib.Omega.{arith}
-use mathlib.Core.Path.{◌≡◌, refl, ap, ap₂, sym, subst, ◌∙◌}
+use mathlib.Core.Path.{◌≡◌, refl, ap, sym, subst, ◌∙◌}
 use mathlib.Core.Bool.{Bool, true, false, not, ◌||◌}
 use mathlib.Core.List.{List, [], ◌∷◌, ◌++◌, append_assoc}
-use Rattle.std.proofs.Common.{Some, None, Ok, Err}
+use Rattle.std.proofs.Common.{Option, Some, None, Ok, Err}
 use lib.ListN.{length, get_or, take, drop, replicate, length-append, length-drop, length-replicate, replicate-append-replicate}
 use lib.Seq.{length-take-le}
 use lib.Dec.{eqb, leb, ltb}
@@ -25,7 +25,7 @@ use Rattle.runs.proofs.Firsts.{firsts_are}
 use Rattle.runs.proofs.Words.{drop_zeros}
 use Rattle.model.specs.Widths.{class_head, place_width}
 use Rattle.model.specs.Class.{class_of}
-use Rattle.model.specs.Book.{Pair, Place, Held, total, entries, place_units, entries_in, units, entries_of, pairs_of, listed, place_free, pair_free, draw_test, granted}
+use Rattle.model.specs.Book.{Pair, Place, Held, total, entries, entries_in, units, entries_of, pairs_of, listed, place_free, pair_free, draw_test, granted}
 use Rattle.model.specs.Book.{with_pairs, add_pair, new_place, enter}
 use Rattle.model.specs.BookWords.{most_entries, pairs_sound, encode_place, place_form, class_form}
 use Rattle.model.proofs.BookKept.{granted_is}
@@ -34,8 +34,7 @@ use Rattle.model.proofs.Pairs.{rising}
 use Rattle.model.proofs.Places.{PlacesOk, holds_some, entries_enter, units_enter, length_enter, grants, Grants}
 use Rattle.book.specs.declared.Spot.{Spot}
 use Rattle.book.specs.declared.totals.Totals.{Totals}
-use Rattle.book.specs.Sums.{totals_in, totals_of, taken}
-use Rattle.book.specs.Rules.{only_if}
+use Rattle.book.specs.Sums.{places_in, units_in, totals_in, totals_of, taken}
 use Rattle.pairs.specs.Pairs.{before, second_at, count_at, raise_at, insert_at}
 use Rattle.book.specs.PlaceRules.{pairs_in, Wide, Has, Fits, raised_place, longer_place, headed, opened_words}
 use Rattle.book.specs.ClassRules.{ClassIs, ClassReads, ClassTurns, place_of, place_index, spot_of, Found, Roomy, BodyTurns, entered, drawn_class}
@@ -44,7 +43,7 @@ use Rattle.pairs.proofs.PairLists.{before_le, second_below, add_listed, add_new}
 use Rattle.book.proofs.ClassWords.{nobody, only, reads_one, turns_one, flat_cons, flat_long, up_flat, each_ok, few, holders_are, totals_are, words_are, here_ok, put_here, place_long}
 use Rattle.book.proofs.ClassLists.{index_le, entries_none, entries_at, enter_at, enter_none}
 use Rattle.book.proofs.Spots.{at_index, at_entries, at_listed, at_unlisted, has_one, here_fine, here_seen, here_pairs, listed_here, before_here, wide}
-use Rattle.book.proofs.Finding.{holders_sum, units_sum, units_small, only_if_le, entries_le, nowhere, in_use, index_is, word_of}
+use Rattle.book.proofs.Finding.{place_if, holders_sum, units_sum, entries_le, nowhere, in_use, index_is, word_of}
 
 -- ---- contracts on the places alone
 -- a part put back behind four words leaves these, so a part of the places leaves the totals
@@ -284,29 +283,28 @@ module _ (b : Shares) (who : Deliverer) (ws : List ℕ) (spot : Spot) (r : Roomy
 
 -- ---- the totals of a class that a draw entered
 pub taken_are : (b : Shares) (c : Class) (who : Deliverer) (s : ℕ) (h : Held) → PlacesOk c b.pairs 0 h.places
-    → taken (totals_of b h) (only_if (eqb (entries_of who h.places) 0) 1) (only_if (eqb (entries_of who h.places) 0) (place_units b who)) ≡ totals_of b (entered b who s h)
+    → taken (totals_of b h) (place_if (eqb (entries_of who h.places) 0) b who) ≡ totals_of b (entered b who s h)
 taken_are b c who s h ok =
     let e = entries_enter b who s h.places in
-    let n : length h.places + only_if (eqb (entries_of who h.places) 0) 1 ≡ length (enter b who s h.places) = sym (length_enter c b.pairs b who s 0 h.places ok ∙ holders_sum who h.places) in
-    let u : units b h.places + 1 + only_if (eqb (entries_of who h.places) 0) (place_units b who) ≡ units b (enter b who s h.places) = sym
+    let n : length h.places + places_in (place_if (eqb (entries_of who h.places) 0) b who) ≡ length (enter b who s h.places) = sym
+    (length_enter c b.pairs b who s 0 h.places ok ∙ holders_sum b who h.places) in
+    let u : units b h.places + 1 + units_in (place_if (eqb (entries_of who h.places) 0) b who) ≡ units b (enter b who s h.places) = sym
     (units_enter c b.pairs b who s 0 h.places ok ∙ units_sum b who h.places) in
     let m : entries_in h.places + 1 ≡ entries_in (enter b who s h.places) = omega arith in
     λ i. record { entries = m i; holders = n i; units = u i; expired = h.expired }
 
 -- ---- enter
 module _ (b : Shares) (who : Deliverer) (ws : List ℕ) (spot : Spot) (r : Roomy b who ws spot) where
-  pub enters : (mid : List ℕ) (place first opened : ℕ) (t₀ t : Totals) → place ≡ place_units b who → first ≡ only_if (eqb spot.seen.entries 0) 1
-      → opened ≡ only_if (eqb spot.seen.entries 0) place → t₀ ≡ totals_in ws → t ≡ taken t₀ first opened
+  pub enters : (mid : List ℕ) (opened : Option ℕ) (t₀ t : Totals) → opened ≡ place_if (eqb spot.seen.entries 0) b who → t₀ ≡ totals_in ws → t ≡ taken t₀ opened
       → BodyTurns b (class_of who) (enter b who spot.second) ws mid
       → ClassTurns b (class_of who) (entered b who spot.second) (λ h. tt {0}) ws (t.entries ∷ t.holders ∷ t.units ∷ t.expired ∷ drop class_head mid) (tt {0})
-  enters mid place first opened t₀ t hp hf ho h₀ ht body =
+  enters mid opened t₀ t ho h₀ ht body =
       let w = r.found.class in
       let h = w.is.value in
       let e = at_entries b who ws spot r.found in
       let s : t₀ ≡ totals_of b h = h₀ ∙ totals_are b (class_of who) ws w in
-      let f : first ≡ only_if (eqb (entries_of who h.places) 0) 1 = hf ∙ ap (λ (n : ℕ). only_if (eqb n 0) 1) e in
-      let o : opened ≡ only_if (eqb (entries_of who h.places) 0) (place_units b who) = ho ∙ ap₂ (λ (n : ℕ). only_if (eqb n 0)) e hp in
-      let x : t ≡ totals_of b (entered b who spot.second h) = ht ∙ rw (s, f, o) (taken_are b (class_of who) who spot.second h w.is.ok.1.0.1) in
+      let o : opened ≡ place_if (eqb (entries_of who h.places) 0) b who = ho ∙ ap (λ (n : ℕ). place_if (eqb n 0) b who) e in
+      let x : t ≡ totals_of b (entered b who spot.second h) = ht ∙ rw (s, o) (taken_are b (class_of who) who spot.second h w.is.ok.1.0.1) in
       turns_one b (class_of who) ws w.is
       (class_words b (class_of who) (entered b who spot.second h) t (drop class_head mid) x (body.does h w.is.ok w.is.words)) refl
 
@@ -371,20 +369,7 @@ module _ (b : Shares) (who : Deliverer) (s : ℕ) (ws : List ℕ) (w : ClassIs b
           let y : granted (draw_test b l closed who s w.is.value.places) ≡ true = rw (← x) g in
           turns_one b (class_of who) ws w.is (rw y ((e.does w.is.value w.is.ok w.is.words).0 ∙ rw second_is)) x
 
--- ---- what the totals ask, and a deliverer's entries
-pub take_asks : (b : Shares) (who : Deliverer) (ws : List ℕ) (spot : Spot) (w : ClassIs b (class_of who) ws) (place first opened : ℕ) (t : Totals)
-    → place ≡ place_units b who → first ≡ only_if (eqb spot.seen.entries 0) 1 → opened ≡ only_if (eqb spot.seen.entries 0) place → t ≡ totals_in ws
-    → (t.entries ≤ 4_000_000) × (t.holders ≤ 64) × (t.units ≤ 4_000_000) × (first ≤ 1) × (opened ≤ 4_096)
-take_asks b who ws spot w place first opened t hp hf ho ht =
-    let u = units_small b who w.feeder w.peer in
-    let f = only_if_le (eqb spot.seen.entries 0) 1 in
-    let o = only_if_le (eqb spot.seen.entries 0) place in
-    let e = w.entries in
-    let n = w.holders in
-    let p = w.places in
-    let v = w.units in
-    rw ht (omega arith, omega arith, omega arith, omega arith, omega arith)
-
+-- ---- a deliverer's entries
 pub held_none : (b : Shares) (who : Deliverer) (ws : List ℕ) (w : ClassIs b (class_of who) ws)
     → ClassReads b (class_of who) (λ h. place_of who h.places) ws None → ClassReads b (class_of who) (λ h. entries_of who h.places) ws 0
 held_none b who ws w r = reads_one b (class_of who) ws w.is (sym (entries_none who 0 w.is.value.places (nowhere b who ws w r)))

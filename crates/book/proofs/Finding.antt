@@ -1,18 +1,23 @@
 -- Looking a deliverer and a second up in a class's words, and the draw's rules on what was found.
 use Prim.Native.Nat.{ℕ, suc, ◌+◌, ◌-◌, ◌*◌, ◌<◌, ◌≤◌}
-use native.Mathlib.Numerals.{add-one}
 use native.Mathlib.Nat.{mul-le-mul_right}
 use native.Mathlib.Omega.{arith}
 use mathlib.Core.Path.{◌≡◌, refl, ap, sym, ◌∙◌}
 use mathlib.Core.Bool.{Bool, true, false, cond}
-use mathlib.Core.List.{List, [], ◌∷◌}
-use Rattle.std.proofs.Common.{Some, None, Err, is_ok}
-use Rattle.std.specs.List.{position_or_len}
+use mathlib.Core.List.{List, [], ◌∷◌, ◌++◌, map}
+use Rattle.std.proofs.Common.{Option, Some, None, Err, is_ok}
+use Rattle.std.specs.declared.slice.ChunksExact.{ChunksExact}
+use Rattle.std.specs.Slice.Iter.{chunks_exact_rest, chunks_exact_size, chunks_exact_steps}
+use Rattle.std.specs.Iterator.{AlwaysYields}
+use Rattle.std.specs.Bool.{then_some}
+use Rattle.std.specs.List.{position, position_or_len}
+use Rattle.std.proofs.lemmas.Iterator.{YieldsList}
+use Rattle.std.proofs.lemmas.List.{length-map}
 use Rattle.std.proofs.lemmas.List.Recursion.{is_position_or_len}
-use lib.ListN.{length, get_or, drop, length-append, drop_of_length-le}
-use lib.Seq.{drop-cons}
+use lib.ListN.{length, get_or, take, drop, length-append}
+use lib.Seq.{take_at, drop_at}
 use lib.Dec.{eqb, leb, ltb}
-use borrow.Author.Tests.{leb-true, ltb-true, ltb-false, lt-ltb, le-ltb}
+use borrow.Author.Tests.{leb-true, ltb-true, ltb-false}
 use borrow.Rule.Slice.PartMut.{mid_of}
 use Rattle.model.specs.declared.Class.{Class}
 use Rattle.model.specs.declared.Deliverer.{Deliverer}
@@ -21,8 +26,10 @@ use Rattle.model.specs.declared.Draw.{Draw}
 use Rattle.model.specs.declared.Shares.{Shares}
 use Rattle.model.specs.declared.Limits.{Limits}
 use Rattle.runs.specs.Chunks.{flat}
+use Rattle.runs.specs.Combine.{EachOk}
 use Rattle.runs.specs.Turns.{Is}
 use Rattle.runs.proofs.Cases.{by_test, both_true}
+use Rattle.runs.proofs.Shifts.{mid_of_append}
 use Rattle.runs.proofs.Walk.{inside}
 use Rattle.model.specs.Numbers.{top32}
 use Rattle.model.specs.Widths.{class_head, place_head, place_width}
@@ -32,15 +39,18 @@ use Rattle.model.specs.Book.{Place, entries, place_units, entries_in, units, ent
 use Rattle.model.specs.Book.{draw_room, draw_limits, draw_test}
 use Rattle.model.specs.BookWords.{most_entries, pair_words, encode_place, PlaceOk, distinct, class_form}
 use Rattle.model.proofs.Bounds.{shares_bounds}
+use Rattle.model.proofs.Places.{PlacesOk}
 use Rattle.model.proofs.BookWords.{read_flat, length_pairs, class_exact, same_class_is}
 use Rattle.book.specs.declared.Spot.{Spot}
 use Rattle.book.specs.declared.place.Seen.{Seen}
 use Rattle.pairs.specs.Pairs.{before}
-use Rattle.book.specs.Rules.{only_if, room_by, decided, names_by}
+use Rattle.book.specs.Sums.{places_in, units_in, taken, totals_in, CanTake}
+use Rattle.book.specs.declared.totals.Totals.{Totals}
+use Rattle.book.specs.Rules.{room_by, decided, names_by}
 use Rattle.book.specs.PlaceRules.{Wide, seen_in, found_at}
 use Rattle.book.specs.ClassRules.{ClassIs, ClassReads, place_of, place_index, spot_of, Found}
 use Rattle.pairs.proofs.PairLists.{listed_at}
-use Rattle.book.proofs.ClassWords.{nobody, reads_one, ps, holders_are, here, here_ok, seen_here, word_here}
+use Rattle.book.proofs.ClassWords.{nobody, reads_one, place_long, flat_long, ps, each_ok, rest, words_are, holders_are, here, here_ok, seen_here, word_here}
 use Rattle.book.proofs.ClassLists.{index_le, names_same, entries_at, pairs_at, entries_none, pairs_none}
 
 -- ---- sums that are small
@@ -56,8 +66,15 @@ unfolding units entries_in
 units_most b [] f p = omega arith
 units_most b (x ∷ xs) f p = let k = units_most b xs f p in let u = units_small b x.who f p in omega arith
 
-pub only_if_le : (holds : Bool) (n : ℕ) → only_if holds n ≤ n
-only_if_le holds n = by_test holds (λ e. rw e (omega arith)) (λ e. rw e (omega arith))
+-- a deliverer's place, where it opens or closes
+abbrev pub place_if : Bool → Shares → Deliverer → Option ℕ
+place_if holds b who = then_some holds (place_units b who)
+
+pub place_few : (holds : Bool) (b : Shares) (who : Deliverer) → units_in (place_if holds b who) ≤ place_units b who
+place_few holds b who = by_test holds (λ e. rw e (omega arith)) (λ e. rw e (omega arith))
+
+pub place_one : (holds : Bool) (b : Shares) (who : Deliverer) → places_in (place_if holds b who) ≤ 1
+place_one holds b who = by_test holds (λ e. rw e (omega arith)) (λ e. rw e (omega arith))
 
 pub entries_le : (who : Deliverer) (xs : List Place) → entries_of who xs ≤ entries_in xs
 unfolding entries_of entries_in
@@ -134,12 +151,6 @@ index_position who = is_position_or_len (place_index who) (λ p. same_deliverer 
 place_is : (who : Deliverer) (xs : List Place) → place_of who xs ≡ cond (ltb (place_index who xs) (length xs)) (Some (place_index who xs)) None
 place_is who xs = rw (index_position who xs)
 
-place_none : (who : Deliverer) (xs : List Place) → length xs ≤ place_index who xs → place_of who xs ≡ None
-place_none who xs h = place_is who xs ∙ rw (le-ltb (place_index who xs) (length xs) h)
-
-place_some : (who : Deliverer) (xs : List Place) (i : ℕ) → place_index who xs ≡ i → i < length xs → place_of who xs ≡ Some i
-place_some who xs i e h = place_is who xs ∙ rw (e, lt-ltb i (length xs) h)
-
 -- and back
 pub place_at : (who : Deliverer) (xs : List Place) (i : ℕ) → place_of who xs ≡ Some i → (place_index who xs ≡ i) × (i < length xs)
 place_at who xs i e =
@@ -154,52 +165,53 @@ place_nowhere who xs e =
     (λ t. let s : Some (place_index who xs) ≡ None = sym (place_is who xs ∙ rw t) ∙ e in absurd (cc))
     (λ f. ltb-false (place_index who xs) (length xs) f)
 
+-- the chunks of the places' words are the places' words, one after the other
+chunks : (c : Class) (E i : ℕ) (ps : List Place) → PlacesOk c E i ps → (s : ChunksExact ℕ) → chunks_exact_size s ≡ place_width E → chunks_exact_rest s ≡ flat encode_place ps
+    → AlwaysYields chunks_exact_steps (λ x. x.now) s (map encode_place ps)
+unfolding flat EachOk
+chunks c E i [] ok s n e = λ x t k. let l = ap length (sym k.1.0 ∙ e) in let m = length-append x.now (chunks_exact_rest t) in let d = k.1.1 in absurd (omega arith)
+chunks c E i (p ∷ ps) ok s n e =
+    let long = place_long c E p ok.0 in (
+      (λ t k. let l = ap length e in let m = length-append (encode_place p) (flat encode_place ps) in let d = k.1.0 in omega arith),
+      λ x t k.
+          let j : x.now ++ chunks_exact_rest t ≡ encode_place p ++ flat encode_place ps = sym k.1.0 ∙ e in
+          let l : length x.now ≡ place_width E = k.1.1 ∙ n in (
+            sym (take_at x.now (chunks_exact_rest t) (place_width E) l) ∙ ap (take (place_width E)) j ∙ take_at (encode_place p) (flat encode_place ps) (place_width E) long,
+            chunks c E (suc i) ps ok.1 t (k.0 ∙ n)
+                (sym (drop_at x.now (chunks_exact_rest t) (place_width E) l) ∙ ap (drop (place_width E)) j ∙ drop_at (encode_place p) (flat encode_place ps) (place_width E) long),
+          ),
+    )
+
+-- a place's words name a deliverer
+abbrev pub named : Deliverer → List ℕ → Bool
+named who ws = names_by who (get_or ws 0 0) (get_or ws 1 0)
+
+names_place : (who : Deliverer) (E : ℕ) (p : Place) → PlaceOk (class_of who) E p → named who (encode_place p) ≡ same_deliverer who p.who
+names_place who E p ok = names_same who p.who p.mark (sym (same_class_is (class_of p.who) (class_of who) ok.class))
+
+named_index : (who : Deliverer) (E i : ℕ) (ps : List Place) → PlacesOk (class_of who) E i ps
+    → position_or_len (named who) (map encode_place ps) ≡ position_or_len (λ p. same_deliverer who p.who) ps
+unfolding EachOk
+named_index who E i [] ok = refl
+named_index who E i (p ∷ ps) ok = rw (names_place who E p ok.0, named_index who E (suc i) ps ok.1)
+
 module _ (b : Shares) (who : Deliverer) (ws : List ℕ) (w : ClassIs b (class_of who) ws) where
-  abbrev pub all : List Place
-  all = w.is.value.places
+  -- the words of the places in use
+  module _ (e : ℕ) (he : e ≡ class_head + get_or ws 1 0 * place_width b.pairs) (s : ChunksExact ℕ) (n : chunks_exact_size s ≡ place_width b.pairs)
+      (r : chunks_exact_rest s ≡ mid_of class_head (e - class_head) ws) where
+    used_words : mid_of class_head (e - class_head) ws ≡ flat encode_place w.is.value.places
+    used_words =
+        let ps = w.is.value.places in
+        let k = holders_are b (class_of who) ws w in
+        let l : length (flat encode_place ps) ≡ e - class_head = flat_long (class_of who) b.pairs 0 ps (each_ok b (class_of who) ws w) ∙ rw (he, k) (omega arith) in
+        rw (words_are b (class_of who) ws w)
+        (mid_of_append (entries_in ps ∷ length ps ∷ units b ps ∷ w.is.value.expired ∷ []) (flat encode_place ps) (rest b (class_of who) ws w) class_head (e - class_head) refl l)
 
-  pub record Seeking (i : ℕ) : Type 0 where
-    pub within : i ≤ get_or ws 1 0
-    pub left : place_index who all ≡ i + place_index who (drop i all)
+    pub used_chunks : YieldsList chunks_exact_steps (λ x. x.now) s (map encode_place w.is.value.places)
+    used_chunks = record { runs = chunks (class_of who) b.pairs 0 w.is.value.places (each_ok b (class_of who) ws w) s n (r ∙ used_words) }
 
-  pub seek_end : (i : ℕ) → Seeking i → get_or ws 1 0 ≤ i → ClassReads b (class_of who) (λ h. place_of who h.places) ws None
-  unfolding place_index
-  seek_end i s h =
-      let k = holders_are b (class_of who) ws w in
-      let d = drop_of_length-le all {i = i} (omega arith) in
-      let l : place_index who all ≡ i + 0 = rw d at s.left in
-      reads_one b (class_of who) ws w.is (sym (place_none who all (omega arith)))
-
-  module _ (i : ℕ) (s : Seeking i) (h : i < get_or ws 1 0) (a : ℕ) (ha : a ≡ class_head + i * place_width b.pairs) where
-    at_i : i < length all
-    at_i = let k = holders_are b (class_of who) ws w in omega arith
-
-    cons : drop i all ≡ get_or all i nobody ∷ drop (suc i) all
-    cons = drop-cons all i nobody at_i
-
-    test : names_by who (get_or ws a 0) (get_or ws (a + 1) 0) ≡ same_deliverer who (get_or all i nobody).who
-    test =
-        let k = word_of b (class_of who) ws w i a (a + place_width b.pairs) h ha refl 0 a (omega arith) (omega arith) in
-        let n = word_of b (class_of who) ws w i a (a + place_width b.pairs) h ha refl 1 (a + 1) (omega arith) refl in
-        let p = get_or all i nobody in
-        let ok = here_ok b (class_of who) ws w i at_i in
-        rw (k, n) (names_same who p.who p.mark (sym (same_class_is (class_of p.who) (class_of who) ok.class)))
-
-    pub seek_stop : (r : Bool) → r ≡ names_by who (get_or ws a 0) (get_or ws (a + 1) 0) → r ≡ true
-        → ClassReads b (class_of who) (λ x. place_of who x.places) ws (Some i)
-    unfolding place_index
-    seek_stop r e t =
-        let d : same_deliverer who (get_or all i nobody).who ≡ true = sym (e ∙ test) ∙ t in
-        let l : place_index who all ≡ i + 0 = rw (cons, d) at s.left in
-        let m = at_i in
-        reads_one b (class_of who) ws w.is (sym (place_some who all i (omega arith) m))
-
-    pub seek_on : (r : Bool) → r ≡ names_by who (get_or ws a 0) (get_or ws (a + 1) 0) → r ≡ false → Seeking (i + 1)
-    unfolding place_index
-    seek_on r e t =
-        let d : same_deliverer who (get_or all i nobody).who ≡ false = sym (e ∙ test) ∙ t in
-        let l = rw (cons, d) at s.left in
-        record { within = omega arith; left = rw (add-one i) (l ∙ omega arith) }
+  pub place_says : (r : Option ℕ) → r ≡ position (named who) (map encode_place w.is.value.places) → ClassReads b (class_of who) (λ h. place_of who h.places) ws r
+  place_says r e = reads_one b (class_of who) ws w.is (e ∙ rw (named_index who b.pairs 0 w.is.value.places (each_ok b (class_of who) ws w), length-map))
 
 -- ---- find
 module _ (b : Shares) (who : Deliverer) (ws : List ℕ) (w : ClassIs b (class_of who) ws) where
@@ -251,41 +263,54 @@ module _ (b : Shares) (who : Deliverer) (s : ℕ) (ws : List ℕ) (w : ClassIs b
         let t = listed_at 0 s p.pairs ok.pairs in
         reads_one b (class_of who) ws w.is (rw (f, g, u, z, t, i))
 
+-- ---- what the totals ask
+pub take_asks : (b : Shares) (who : Deliverer) (ws : List ℕ) (spot : Spot) (w : ClassIs b (class_of who) ws) (opened : Option ℕ) (t : Totals)
+    → opened ≡ place_if (eqb spot.seen.entries 0) b who → t ≡ totals_in ws → CanTake t opened
+take_asks b who ws spot w opened t ho ht =
+    let u = units_small b who w.feeder w.peer in
+    let o = place_few (eqb spot.seen.entries 0) b who in
+    let e = w.entries in
+    let n = w.holders in
+    let p = w.places in
+    let v = w.units in
+    rw (ht, ho) (omega arith, omega arith, omega arith, omega arith)
+
 -- ---- draw
 own_sum : (b : Shares) (who : Deliverer) (xs : List Place) → own_after b who xs ≡ entries_of who xs + 1 + place_units b who
 unfolding own_after
 own_sum b who xs = omega arith
 
-pub holders_sum : (who : Deliverer) (xs : List Place) → holders_with who xs ≡ length xs + only_if (eqb (entries_of who xs) 0) 1
+pub holders_sum : (b : Shares) (who : Deliverer) (xs : List Place) → holders_with who xs ≡ length xs + places_in (place_if (eqb (entries_of who xs) 0) b who)
 unfolding holders_with
-holders_sum who xs = by_test (eqb (entries_of who xs) 0) (λ e. rw e (omega arith)) (λ e. rw e (omega arith))
+holders_sum b who xs = by_test (eqb (entries_of who xs) 0) (λ e. rw e (omega arith)) (λ e. rw e (omega arith))
 
-pub units_sum : (b : Shares) (who : Deliverer) (xs : List Place) → units_after b who xs ≡ units b xs + 1 + only_if (eqb (entries_of who xs) 0) (place_units b who)
+pub units_sum : (b : Shares) (who : Deliverer) (xs : List Place) → units_after b who xs ≡ units b xs + 1 + units_in (place_if (eqb (entries_of who xs) 0) b who)
 unfolding units_after
-units_sum b who xs = omega arith
+units_sum b who xs = by_test (eqb (entries_of who xs) 0) (λ e. rw e (omega arith)) (λ e. rw e (omega arith))
 
 module _ (b : Shares) (l : Limits) (closed : Bool) (who : Deliverer) (s : ℕ) (xs : List Place) where
   pub draw_is : draw_test b l closed who s xs
-      ≡ decided l closed who (entries_of who xs) (entries_of who xs + 1 + place_units b who) (length xs + only_if (eqb (entries_of who xs) 0) 1)
-      (units b xs + 1 + only_if (eqb (entries_of who xs) 0) (place_units b who)) (room_by (entries_of who xs) (length xs) b.places (listed s (pairs_of who xs)) (length (pairs_of who xs)) b.pairs)
+      ≡ decided l closed who (entries_of who xs) (entries_of who xs + 1 + place_units b who) (length xs + places_in (place_if (eqb (entries_of who xs) 0) b who))
+      (units b xs + 1 + units_in (place_if (eqb (entries_of who xs) 0) b who)) (room_by (entries_of who xs) (length xs) b.places (listed s (pairs_of who xs)) (length (pairs_of who xs)) b.pairs)
   unfolding draw_test draw_limits draw_room place_free pair_free decided room_by
-  draw_is = rw (own_sum b who xs, holders_sum who xs, units_sum b who xs)
+  draw_is = rw (own_sum b who xs, holders_sum b who xs, units_sum b who xs)
 
-at_least : (who : Deliverer) (xs : List Place) → 1 ≤ length xs + only_if (eqb (entries_of who xs) 0) 1
+at_least : (b : Shares) (who : Deliverer) (xs : List Place) → 1 ≤ length xs + places_in (place_if (eqb (entries_of who xs) 0) b who)
 unfolding entries_of
-at_least who [] = omega arith
-at_least who (x ∷ xs) = omega arith
+at_least b who [] = omega arith
+at_least b who (x ∷ xs) = omega arith
 
 ok_found : (hit : Bool) (k : ℕ) → is_ok (found_at hit k) ≡ hit
 ok_found true k = refl
 ok_found false k = refl
 
 module _ (b : Shares) (l : Limits) (closed : Bool) (who : Deliverer) (ws : List ℕ) (spot : Spot) (f : Found b who ws spot) where
-  pub draw_says : (place first opened : ℕ) (hit : Bool) (room r : Draw) → place ≡ place_units b who → first ≡ only_if (eqb spot.seen.entries 0) 1 → opened ≡ only_if (eqb spot.seen.entries 0) place
-      → hit ≡ is_ok spot.seen.pair → room ≡ room_by spot.seen.entries (get_or ws 1 0) b.places hit spot.seen.pairs b.pairs
-      → r ≡ decided l closed who spot.seen.entries (spot.seen.entries + 1 + place) (get_or ws 1 0 + first) (get_or ws 2 0 + 1 + opened) room
+  pub draw_says : (place : ℕ) (opened : Option ℕ) (t₀ t : Totals) (hit : Bool) (room r : Draw) → place ≡ place_units b who
+      → opened ≡ place_if (eqb spot.seen.entries 0) b who → t₀ ≡ totals_in ws → t ≡ taken t₀ opened
+      → hit ≡ is_ok spot.seen.pair → room ≡ room_by spot.seen.entries t₀.holders b.places hit spot.seen.pairs b.pairs
+      → r ≡ decided l closed who spot.seen.entries (spot.seen.entries + 1 + place) t.holders t.units room
       → ClassReads b (class_of who) (λ h. draw_test b l closed who spot.second h.places) ws r
-  draw_says place first opened hit room r hp hf ho hh hr e =
+  draw_says place opened t₀ t hit room r hp ho h₀ ht hh hr e =
       let w = f.class in
       let xs = w.is.value.places in
       let n : get_or ws 1 0 ≡ length xs = holders_are b (class_of who) ws w in
@@ -294,14 +319,12 @@ module _ (b : Shares) (l : Limits) (closed : Bool) (who : Deliverer) (ws : List 
       let k : spot.seen.pairs ≡ length (pairs_of who xs) = ap (λ (z : Spot). z.seen.pairs) f.at in
       let m : hit ≡ listed spot.second (pairs_of who xs) = hh ∙ ap (λ (z : Spot). is_ok z.seen.pair) f.at ∙ ok_found _ _ in
       reads_one b (class_of who) ws w.is
-      (e ∙ sym (rw (hr, ho, hf, hp) (rw (← m, ← k, ← h, ← n, ← u) at (draw_is b l closed who spot.second xs))))
+      (e ∙ sym (rw (hr, ht, h₀, ho, hp) (rw (← m, ← k, ← h, ← n, ← u) at (draw_is b l closed who spot.second xs))))
 
-  pub some_holder : (first : ℕ) → first ≡ only_if (eqb spot.seen.entries 0) 1 → 1 ≤ get_or ws 1 0 + first
-  some_holder first e =
+  pub some_holder : (opened : Option ℕ) (t₀ t : Totals) → opened ≡ place_if (eqb spot.seen.entries 0) b who → t₀ ≡ totals_in ws → t ≡ taken t₀ opened → 1 ≤ t.holders
+  some_holder opened t₀ t ho h₀ ht =
       let w = f.class in
       let xs = w.is.value.places in
       let n : get_or ws 1 0 ≡ length xs = holders_are b (class_of who) ws w in
       let h : spot.seen.entries ≡ entries_of who xs = ap (λ (z : Spot). z.seen.entries) f.at in
-      let k : 1 ≤ length xs + only_if (eqb (entries_of who xs) 0) 1 = at_least who xs in
-      let g : first ≡ only_if (eqb (entries_of who xs) 0) 1 = e ∙ ap (λ (z : ℕ). only_if (eqb z 0) 1) h in
-      omega arith
+      rw (ht, h₀, ho, n, h) (at_least b who xs)

@@ -5,7 +5,7 @@ use native.Mathlib.Omega.{arith}
 use mathlib.Core.Path.{◌≡◌, refl, ap, ap₂, sym, subst, ◌∙◌}
 use mathlib.Core.Bool.{true, false}
 use mathlib.Core.List.{List, [], ◌∷◌, ◌++◌, append_assoc}
-use Rattle.std.proofs.Common.{Ok, Err}
+use Rattle.std.proofs.Common.{Option, Ok, Err}
 use lib.ListN.{length, get_or, take, drop, replicate, length-append, replicate-append-replicate}
 use lib.Seq.{drop_at}
 use lib.Dec.{eqb, ltb}
@@ -26,8 +26,7 @@ use Rattle.model.proofs.Pairs.{total_some, total_lower, lower_sound}
 use Rattle.model.proofs.Places.{holds_some, same_is}
 use Rattle.book.specs.declared.Spot.{Spot}
 use Rattle.book.specs.declared.totals.Totals.{Totals}
-use Rattle.book.specs.Sums.{totals_in, totals_of, untaken}
-use Rattle.book.specs.Rules.{only_if}
+use Rattle.book.specs.Sums.{totals_in, totals_of, untaken, CanUntake}
 use Rattle.pairs.specs.Pairs.{before, second_at, count_at, lower_at, remove_at}
 use Rattle.book.specs.PlaceRules.{pairs_in, Wide, Has, Single, lowered_place, shorter_place}
 use Rattle.book.specs.ClassRules.{ClassIs, ClassReads, ClassTurns, place_index, spot_of, Found, Listed, BodyTurns, returned}
@@ -37,7 +36,7 @@ use Rattle.book.proofs.ClassWords.{nobody, turns_one, flat_long, up_flat, few, c
 use Rattle.book.proofs.ClassWords.{seen_here, put_here, front_long, place_long}
 use Rattle.book.proofs.ClassLists.{index_same, entries_at, pairs_at, pairs_none, back_at, back_none, entries_append, units_append}
 use Rattle.book.proofs.Spots.{at_index, at_entries, at_listed, at_unlisted, has_one}
-use Rattle.book.proofs.Finding.{only_if_le, place_wide}
+use Rattle.book.proofs.Finding.{place_if, place_few, place_one, place_wide}
 use Rattle.book.proofs.Entering.{body_one, same_many, class_words, count_in, count_some, second_is, found_of}
 
 -- ---- what is left of a place's pairs
@@ -298,46 +297,40 @@ module _ (b : Shares) (who : Deliverer) (ws : List ℕ) (spot : Spot) (f : Found
               returns_here (lowered_place nth now) ys y.0 (ap (λ (z : List Pair). with_pairs z now) (sym q))
 
     -- ---- the totals
-    pub untake_asks : (place gone freed : ℕ) (t : Totals) → place ≡ place_units b who → gone ≡ only_if (eqb spot.seen.entries 1) 1 → freed ≡ only_if (eqb spot.seen.entries 1) place → t ≡ totals_in ws
-        → (1 ≤ t.entries) × (gone ≤ t.holders) × (1 + freed ≤ t.units)
-    untake_asks place gone freed t hp hg hf ht =
+    pub untake_asks : (closed : Option ℕ) (t : Totals) → closed ≡ place_if (eqb spot.seen.entries 1) b who → t ≡ totals_in ws → CanUntake t closed
+    untake_asks closed t hc ht =
         let s = holds_some (class_of who) b.pairs now fine in
         let e = entries_cut in
         let u = units_cut in
         let n = length_cut in
-        let g = only_if_le (eqb spot.seen.entries 1) 1 in
-        let h = only_if_le (eqb spot.seen.entries 1) place in
-        let v : place ≡ place_units b now.who = hp ∙ ap (place_units b) whose in
-        rw (ht ∙ totals_are b (class_of who) ws f.class) (omega arith, omega arith, omega arith)
+        let g = place_one (eqb spot.seen.entries 1) b who in
+        let h = place_few (eqb spot.seen.entries 1) b who in
+        let v : place_units b who ≡ place_units b now.who = ap (place_units b) whose in
+        rw (hc, ht ∙ totals_are b (class_of who) ws f.class) (omega arith, omega arith, omega arith)
 
-    pub untaken_are : (place gone freed : ℕ) → place ≡ place_units b who → gone ≡ only_if (eqb spot.seen.entries 1) 1 → freed ≡ only_if (eqb spot.seen.entries 1) place
-        → untaken (totals_of b f.class.is.value) gone freed ≡ totals_of b (returned who spot.second f.class.is.value)
+    pub untaken_are : untaken (totals_of b f.class.is.value) (place_if (eqb spot.seen.entries 1) b who) ≡ totals_of b (returned who spot.second f.class.is.value)
     unfolding entries_in units with_pairs
-    untaken_are place gone freed hp hg hf =
+    untaken_are =
         let e = entries_cut in
         let u = units_cut in
         let n = length_cut in
         let o = one_less in
         let en = entries_now in
-        let v : place ≡ place_units b now.who = hp ∙ ap (place_units b) whose in
+        let v : place_units b who ≡ place_units b now.who = ap (place_units b) whose in
         by_test (eqb spot.seen.entries 1)
         (λ t.
         let one = eqb-true spot.seen.entries 1 t in
         let k = back_shorter one in
-        let g : gone ≡ 1 = hg ∙ rw t in
-        let h : freed ≡ place = hf ∙ rw t in
         let x : entries_in xs - 1 ≡ entries_in (front ++ back) = rw entries_append (omega arith) in
-        let y : length xs - gone ≡ length (front ++ back) = rw length-append (omega arith) in
-        let z : units b xs - 1 - freed ≡ units b (front ++ back) = rw units_append (omega arith) in
-        rw k (λ i. record { entries = x i; holders = y i; units = z i; expired = f.class.is.value.expired }))
+        let y : length xs - 1 ≡ length (front ++ back) = rw length-append (omega arith) in
+        let z : units b xs - 1 - place_units b who ≡ units b (front ++ back) = rw units_append (omega arith) in
+        rw (k, t) (λ i. record { entries = x i; holders = y i; units = z i; expired = f.class.is.value.expired }))
         (λ t.
         let k = back_same (eqb-false spot.seen.entries 1 t) in
-        let g : gone ≡ 0 = hg ∙ rw t in
-        let h : freed ≡ 0 = hf ∙ rw t in
         let x : entries_in xs - 1 ≡ entries_in (front ++ with_pairs left now ∷ back) = rw entries_append (omega arith) in
-        let y : length xs - gone ≡ length (front ++ with_pairs left now ∷ back) = rw length-append (omega arith) in
-        let z : units b xs - 1 - freed ≡ units b (front ++ with_pairs left now ∷ back) = rw units_append (omega arith) in
-        rw k (λ i. record { entries = x i; holders = y i; units = z i; expired = f.class.is.value.expired }))
+        let y : length xs - 0 ≡ length (front ++ with_pairs left now ∷ back) = rw length-append (omega arith) in
+        let z : units b xs - 1 - 0 ≡ units b (front ++ with_pairs left now ∷ back) = rw units_append (omega arith) in
+        rw (k, t) (λ i. record { entries = x i; holders = y i; units = z i; expired = f.class.is.value.expired }))
 
 -- ---- untake
 module _ (b : Shares) (who : Deliverer) (s : ℕ) (ws : List ℕ) (w : ClassIs b (class_of who) ws) (spot : Spot)
@@ -364,13 +357,13 @@ module _ (b : Shares) (who : Deliverer) (s : ℕ) (ws : List ℕ) (w : ClassIs b
         let u = w.used in
         record { found = found; yes = yes; within = omega arith; before_end = omega arith }
 
-    pub untakes : (mid : List ℕ) (place gone freed : ℕ) (t₀ t : Totals) → place ≡ place_units b who → gone ≡ only_if (eqb spot.seen.entries 1) 1 → freed ≡ only_if (eqb spot.seen.entries 1) place
-        → t₀ ≡ totals_in ws → t ≡ untaken t₀ gone freed → BodyTurns b (class_of who) (give_back who spot.second) ws mid
+    pub untakes : (mid : List ℕ) (closed : Option ℕ) (t₀ t : Totals) → closed ≡ place_if (eqb spot.seen.entries 1) b who
+        → t₀ ≡ totals_in ws → t ≡ untaken t₀ closed → BodyTurns b (class_of who) (give_back who spot.second) ws mid
         → ClassTurns b (class_of who) (returned who s) (λ h. tt {0}) ws (t.entries ∷ t.holders ∷ t.units ∷ t.expired ∷ drop class_head mid) (tt {0})
     unfolding found_of found
-    untakes mid place gone freed t₀ t hp hg hf h₀ ht body =
+    untakes mid closed t₀ t hc h₀ ht body =
         let h = w.is.value in
-        let x : t ≡ totals_of b (returned who spot.second h) = ht ∙ rw (h₀ ∙ totals_are b (class_of who) ws w) (untaken_are b who ws spot found nth yes place gone freed hp hg hf) in
+        let x : t ≡ totals_of b (returned who spot.second h) = ht ∙ rw (hc, h₀ ∙ totals_are b (class_of who) ws w) (untaken_are b who ws spot found nth yes) in
         let e = second_is b who s ws w spot r in
         let y : t.entries ∷ t.holders ∷ t.units ∷ t.expired ∷ drop class_head mid ≡ (class_form b (class_of who)).enc (returned who spot.second h) =
         class_words b (class_of who) (returned who spot.second h) t (drop class_head mid) x (body.does h w.is.ok w.is.words) in

@@ -1,5 +1,5 @@
 -- The rules of a draw on numbers that the words give at once, and a place's deliverer by its words.
-use Rattle.std.specs.Prelude.{ℕ, ◌*◌, ◌/◌, Bool, cond, not, ◌&&◌, ◌||◌, eqb, leb, ltb, if◌then◌else◌}
+use Rattle.std.specs.Prelude.{ℕ, ◌*◌, ◌/◌, Bool, not, ◌&&◌, ◌||◌, eqb, leb, ltb, if◌then◌else◌}
 use Rattle.model.specs.declared.Deliverer.{Deliverer}
 use Rattle.model.specs.declared.Deliverer.TheVariants.{Feeder, Peer, Relay, Restored}
 use Rattle.model.specs.declared.Draw.{Draw}
@@ -7,10 +7,6 @@ use Rattle.model.specs.declared.Draw.TheVariants.{Granted, Closed, OwnShare, Cla
 use Rattle.model.specs.declared.Limits.{Limits}
 use Rattle.model.specs.Class.{class_of}
 use Rattle.model.specs.Book.{together, below_share, fair}
-
--- n where something holds, else 0
-abbrev pub only_if : Bool → ℕ → ℕ
-only_if holds n = cond holds n 0
 
 -- is a place free, and a pair?
 unfoldable pub room_by : ℕ → ℕ → ℕ → Bool → ℕ → ℕ → Draw

@@ -2,17 +2,10 @@
 ghost use Rattle.std.specs.Prelude.{◌≡◌, ◌≤◌};
 ghost use Rattle.model.specs.Class.{class_of};
 ghost use Rattle.model.specs.Book.{place_units, together, below_share, fair, granted};
-ghost use Rattle.book.specs.Rules.{only_if, room_by, decided};
+ghost use Rattle.book.specs.Rules.{room_by, decided};
 
 use model::{Class, Deliverer, Draw, Limits, Shares};
 use numbers::codes;
-
-// n where something holds, else 0.
-pub fn only_if(holds: bool, n: u64) -> u64
-    ensures { result ≡ only_if holds n }
-{
-    if holds { n } else { 0 }
-}
 
 // The units that a deliverer's place costs.
 #[tactic(auto, unfolding(model::specs::Book::place_units))]

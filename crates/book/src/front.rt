@@ -7,7 +7,7 @@ ghost use Rattle.model.specs.Words.{encode_front, read_front, FrontOk};
 ghost use Rattle.book.specs.FrontRules.{limited, shut, limits_stored, closed_stored};
 
 use model::Limits;
-use numbers::layout;
+use numbers::{bounds, layout};
 
 // Sets the five limits.
 pub fn set_limits(front: &mut [u64], limits: Limits)
@@ -32,18 +32,13 @@ pub fn close(front: &mut [u64])
 }
 
 // The limits that are kept.
+#[tactic(auto, using(numbers::proofs::Readers::limits_first))]
 pub fn kept_limits(front: &[u64]) -> Limits
     requires { 11 ≤ length front.now }
     ensures value { result ≡ (read_front front.now).limits }
     ensures reads { (s : Settings) → Reads (encode_front s) FrontOk (λ f. f.limits) front.now result }
 {
-    Limits {
-        feeder: front[layout::FEEDER_LIMIT],
-        feeders: front[layout::FEEDERS_LIMIT],
-        peer: front[layout::PEER_LIMIT],
-        peers: front[layout::PEERS_LIMIT],
-        relay: front[layout::RELAY_LIMIT],
-    }
+    bounds::limits_of(&front[layout::FEEDER_LIMIT..layout::CLOSED])
 }
 
 // Whether the book is closed.

@@ -24,7 +24,8 @@ use runs::moves;
 use totals::Totals;
 
 // What a class holds of one deliverer and one second: the deliverer's place (the first unused one where it has none), and what
-// that place says of the second.
+// that place says of the second. The place is a bare index and no Result: a step takes the index in either case, and a return, whose
+// deliverer has a place, would meet an `Err` that cannot be. What the rules ask for is the entries, 0 where there is no place.
 #[derive(Clone, Copy)]
 pub struct Spot {
     pub second: u64,
@@ -32,19 +33,15 @@ pub struct Spot {
     pub seen: Seen,
 }
 
-// The place of a deliverer, where it has one. A chain of chunks, of which the first so many are taken, would be no shorter: it needs
-// the holders, a place's width and its two words as well.
+// The place of a deliverer, where it has one: one walk over the places in use.
 pub fn find_place(part: &[u64], shares: Shares, who: Deliverer) -> Option<usize>
     requires { ClassIs shares (class_of who) part.now }
     ensures { ClassReads shares (class_of who) (λ h. place_of who h.places) part.now result }
 {
-    for i in 0..part[layout::CLASS_HOLDERS] as usize {
-        let a = starts::place_start(shares, i);
-        if place::names(who, part[a], part[a + layout::PLACE_NUMBER]) {
-            return Some(i);
-        }
-    }
-    None
+    let used = starts::place_start(shares, part[layout::CLASS_HOLDERS] as usize);
+    part[layout::CLASS_HEAD..used]
+        .chunks_exact(starts::place_width(shares))
+        .position(|place| place::names(who, place::code_of(place)))
 }
 
 // Looks a deliverer and a second up: one walk over the class's places, and one over the pairs of the deliverer's place.
@@ -81,26 +78,26 @@ pub fn draw(
     ensures { ClassReads shares (class_of who) (λ h. draw_test shares limits closed who spot.second h.places) part.now result }
 {
     let held = spot.seen.entries;
-    let holders = part[layout::CLASS_HOLDERS];
     let place = decide::place_units(shares, who);
-    let first = decide::only_if(held == 0, 1);
-    let opened = decide::only_if(held == 0, place);
+    let mut totals = Totals::read(part);
     let room = decide::room(
         held,
-        holders,
+        totals.holders,
         shares.places,
         spot.seen.pair.is_ok(),
         spot.seen.pairs,
         shares.pairs,
     );
+    // From here on they are what the draw would leave.
+    totals.take((held == 0).then_some(place));
     decide::judge(
         limits,
         closed,
         who,
         held,
         held + 1 + place,
-        holders + first,
-        part[layout::CLASS_UNITS] + 1 + opened,
+        totals.holders,
+        totals.units,
         room,
     )
 }
@@ -128,11 +125,9 @@ pub fn enter(part: &mut [u64], shares: Shares, who: Deliverer, spot: Spot)
     requires { Roomy shares who part.old spot }
     ensures { ClassTurns shares (class_of who) (entered shares who spot.second) (λ h. tt {0}) part.old part.new (tt {0}) }
 {
-    let opens = spot.seen.entries == 0;
-    let first = decide::only_if(opens, 1);
-    let opened = decide::only_if(opens, decide::place_units(shares, who));
+    let place = decide::place_units(shares, who);
     let mut totals = Totals::read(part);
-    totals.take(first, opened);
+    totals.take((spot.seen.entries == 0).then_some(place));
     enter_place(part, shares, who, spot);
     totals.write(part);
 }
@@ -206,11 +201,9 @@ pub fn untake(part: &mut [u64], shares: Shares, who: Deliverer, second: Second)
     let Ok(k) = spot.seen.pair else {
         return;
     };
-    let closes = spot.seen.entries == 1;
-    let gone = decide::only_if(closes, 1);
-    let freed = decide::only_if(closes, decide::place_units(shares, who));
+    let place = decide::place_units(shares, who);
     let mut totals = Totals::read(part);
-    totals.untake(gone, freed);
+    totals.untake((spot.seen.entries == 1).then_some(place));
     return_place(part, shares, who, spot, k);
     totals.write(part);
 }

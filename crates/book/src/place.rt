@@ -1,7 +1,7 @@
 // One place: the kind and number of its deliverer, its entries, how many pairs it has, then the cells of E pairs.
 ghost use Rattle.std.specs.Prelude.{◌+◌, ◌≤◌, ◌<◌, ◌≡◌, length, get_or};
 ghost use Rattle.runs.specs.Turns.{Is, Turns};
-ghost use Rattle.model.specs.Widths.{place_width};
+ghost use Rattle.model.specs.Widths.{place_head, place_width};
 ghost use Rattle.model.specs.Class.{kind_of};
 ghost use Rattle.model.specs.Book.{total};
 ghost use Rattle.model.specs.BookWords.{number_word, encode_place, most_entries};
@@ -12,11 +12,23 @@ ghost use Rattle.book.specs.PlaceRules.{Wide, pairs_in, seen_in, Has, Single, Fi
 use model::{Deliverer, DelivererCode};
 use numbers::layout;
 
-// Whether a place's kind and number are those of a deliverer of its class: Relay and Restored have one place each. They come as the
-// numbers that lie in the words, which may be of no deliverer at all.
-pub fn names(who: Deliverer, kind: u64, number: u64) -> bool
-    ensures { result ≡ names_by who kind number }
+// The code of a place's deliverer.
+pub(crate) fn code_of(place: &[u64]) -> DelivererCode
+    requires { place_head ≤ length place.now }
+    ensures { result ≡ record { kind = get_or place.now 0 0; number = get_or place.now 1 0 } }
 {
+    DelivererCode {
+        kind: place[layout::PLACE_KIND],
+        number: place[layout::PLACE_NUMBER],
+    }
+}
+
+// Whether the code in a place is that of a deliverer of its class: Relay and Restored have one place each. It is compared as it lies in
+// the words, where it may be of no deliverer at all.
+pub fn names(who: Deliverer, code: DelivererCode) -> bool
+    ensures { result ≡ names_by who code.kind code.number }
+{
+    let DelivererCode { kind, number } = code;
     match who {
         Deliverer::Feeder(id) => kind == DelivererCode::FEEDER && number == id,
         Deliverer::Peer(id) => kind == DelivererCode::PEER && number == id,

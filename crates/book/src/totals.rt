@@ -39,24 +39,30 @@ impl Totals {
         part[layout::CLASS_EXPIRED] = self.expired;
     }
 
-    // A draw's entry is added; `first` is 1 and `place` the place's units where the deliverer had no place.
-    pub fn take(&mut self, first: u64, place: u64)
-        requires { CanTake self.old first place }
-        ensures { self.new ≡ taken self.old first place }
+    // A draw's entry is added, and its deliverer's place where that opens: `opened` has the place's units.
+    pub fn take(&mut self, opened: Option<u64>)
+        requires { CanTake self.old opened }
+        ensures { self.new ≡ taken self.old opened }
     {
         self.entries += 1;
-        self.holders += first;
-        self.units += 1 + place;
+        self.units += 1;
+        if let Some(place) = opened {
+            self.holders += 1;
+            self.units += place;
+        }
     }
 
-    // An entry that is given back is taken off; `gone` is 1 and `place` the place's units where its place went.
-    pub fn untake(&mut self, gone: u64, place: u64)
-        requires { CanUntake self.old gone place }
-        ensures { self.new ≡ untaken self.old gone place }
+    // An entry that is given back is taken off, and its deliverer's place where that closes: `closed` has the place's units.
+    pub fn untake(&mut self, closed: Option<u64>)
+        requires { CanUntake self.old closed }
+        ensures { self.new ≡ untaken self.old closed }
     {
         self.entries -= 1;
-        self.holders -= gone;
-        self.units -= 1 + place;
+        self.units -= 1;
+        if let Some(place) = closed {
+            self.holders -= 1;
+            self.units -= place;
+        }
     }
 
     // What has expired up to a second is taken off: so many entries, places and units.

@@ -1,10 +1,12 @@
 -- What a slot, a generation, a class and a register come to in a dump, as the code goes over them.
-use Prim.Native.Nat.{ℕ, ◌+◌, ◌-◌, min}
+use Prim.Native.Nat.{ℕ, suc, ◌+◌, ◌-◌, min}
 use native.Mathlib.Omega.{arith}
 use mathlib.Core.Path.{◌≡◌, refl, sym, subst, ◌∙◌}
 use mathlib.Core.List.{List, [], ◌∷◌, ◌++◌}
 use lib.ListN.{length, get_or}
 use borrow.Author.Tests.{eq-eqb, ne_eqb}
+use Rattle.std.proofs.Common.{Option, Some, None}
+use Rattle.std.specs.Option.{MatchOption}
 use Rattle.model.specs.Widths.{generation_head, generation_width}
 use Rattle.model.specs.Numbers.{top64, cap64}
 use Rattle.model.specs.Dump.{word_bytes, dumped_floor, fingerprints}
@@ -60,14 +62,11 @@ module _ (enc : ℕ → List ℕ) {k : ℕ} (each : (n : ℕ) → length (enc n)
       pub part_puts : {after : List ℕ} {r : ℕ} → Puts enc k q (fingerprints (lent_slots g.slots ws)) mid after r → Puts enc k p (part_words ws) out after r
       part_puts e = writes_last (fingerprints (lent_slots g.slots ws)) lead_on e
 
--- ---- floor_told
-pub told_none : (flag floor : ℕ) → (flag ≡ 1 → ⊥) → 0 ≡ floor_of flag floor
-unfolding dumped_floor
-told_none flag floor n = rw (ne_eqb flag 1 n)
-
-pub told : (flag floor r : ℕ) → flag ≡ 1 → r ≡ min (floor + 1) top64 → r ≡ floor_of flag floor
+-- ---- the word that tells a floor
+pub told : (read : Option ℕ) {f : Option ℕ} (r : ℕ) → read ≡ f → MatchOption read (r ≡ 0) (λ n. r ≡ min (n + 1) top64) → r ≡ dumped_floor f
 unfolding dumped_floor cap64
-told flag floor r e t = rw (eq-eqb flag 1 e) (omega arith)
+told None r e h = rw (sym e) h
+told (Some n) r e h = let t : r ≡ min (suc n) top64 = h ∙ omega arith in rw (sym e) t
 
 -- ---- put_dump: the floor, and then the three classes
 module _ (k n : ℕ) (ws : List ℕ) {out : List ℕ} (f : Fits 8 0 (register_words k n ws) out) where

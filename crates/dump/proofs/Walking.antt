@@ -2,10 +2,10 @@
 -- then what it holds is what lies at the positions. And what each step of a walk comes to.
 use Prim.Native.Nat.{ℕ, zero, suc, ◌+◌, ◌-◌, ◌*◌, ◌<◌, ◌≤◌}
 use native.Mathlib.Omega.{arith}
-use mathlib.Core.Path.{◌≡◌, ap, sym, ◌∙◌}
+use mathlib.Core.Path.{◌≡◌, refl, ap, sym, ◌∙◌}
 use mathlib.Core.Bool.{cond}
 use mathlib.Core.List.{List, [], ◌∷◌}
-use Rattle.std.specs.Prelude.{Option, Some, None}
+use Rattle.std.specs.Prelude.{SomeIff, Option, Some, None}
 use lib.Dec.{leb}
 use lib.ListN.{length, get_or, take, drop, length-drop, drop_of_length-le}
 use lib.Seq.{drop-cons, drop-drop}
@@ -14,7 +14,15 @@ use Rattle.runs.proofs.Cases.{by_test}
 use Rattle.runs.proofs.Firsts.{firsts_are}
 use Rattle.model.specs.Dump.{Dumped, Cut, found_first, read_generations, read_class, read_own, read_peers, read_feeders, read_words}
 use Rattle.model.proofs.DumpRead.{read_none}
-use Rattle.dump.specs.Walk.{length_at, dumped_at, next_at, dumped_from, end_from, class_dumped, class_end, peers_at, own_at, dump_end, dump_at}
+use Rattle.dump.specs.Walk.{told_by, length_at, dumped_at, next_at, dumped_from, end_from, class_dumped, class_end, peers_at, own_at, dump_end, dump_at}
+
+-- ---- the floor that the first word tells, as one is taken from it
+pub told_is : (n : ℕ) (r : Option ℕ) → SomeIff r (1 ≤ n) (n - 1) → r ≡ told_by n
+unfolding told_by
+told_is zero None h = refl
+told_is zero (Some f) h = let l = h.0 in absurd (omega arith)
+told_is (suc n) None h = absurd (h (omega arith))
+told_is (suc n) (Some f) h = let t = h.1 in let e : f ≡ n = omega (arith, t) in ap Some e
 
 -- ---- one step
 pub end_next : (ws : List ℕ) (p n : ℕ) → 0 < n → end_from ws p n ≡ end_from ws (next_at ws p) (n - 1)

@@ -42,6 +42,11 @@ own_at ws = class_end ws (peers_at ws)
 abbrev pub dump_end : List ℕ → ℕ
 dump_end ws = class_end ws (own_at ws)
 
+-- the floor that a dump's first word tells: 0 is none, and otherwise the floor and 1
+unfoldable pub told_by : ℕ → Option ℕ
+told_by zero = None
+told_by (suc n) = Some n
+
 abbrev pub dump_at : List ℕ → Dump
 dump_at ws = record {
   floor = get_or ws 0 0;

@@ -13,4 +13,4 @@ pub use held::{Rings, Shape, Shown, held_in, put_rings, shape_of, split_rings};
 pub use octets::{put_word, word_at};
 pub use of_register::{dump, dump_length};
 pub use output::{Element, put_all};
-pub use walk::{Found, count_at, floor_word, generation_at, print_at, read_lengths};
+pub use walk::{Found, count_at, generation_at, print_at, read_lengths, told_floor};

@@ -2,7 +2,7 @@
 // words (bucket, newest, length) and its fingerprints.
 ghost use Rattle.std.specs.Prelude.{◌≡◌, ◌+◌, ◌/◌, ◌≤◌, ◌<◌, length, get_or};
 ghost use Rattle.model.specs.Dump.{words_of, read_dump};
-ghost use Rattle.dump.specs.Walk.{passed_to, next_at, end_from, class_end, lengths_of, FoundAt};
+ghost use Rattle.dump.specs.Walk.{told_by, passed_to, next_at, end_from, class_end, lengths_of, FoundAt};
 
 use crate::octets::word;
 use crate::reader::Reader;
@@ -69,12 +69,13 @@ pub fn read_lengths(bytes: &[u8]) -> Option<usize>
 
 // ---- the second walk, after the lengths have been read
 
-// The word that tells the floor: 0 where there is none, else one more than it.
-pub fn floor_word(bytes: &[u8]) -> u64
+// The floor, if there is one: the word that tells it is 0 where there is none, else one more than it.
+#[tactic(auto, using(crate::proofs::Walking::told_is))]
+pub fn told_floor(bytes: &[u8]) -> Option<u64>
     requires { 0 < length bytes.now / 8 }
-    ensures { result ≡ get_or (words_of bytes.now) 0 0 }
+    ensures { result ≡ told_by (get_or (words_of bytes.now) 0 0) }
 {
-    word(bytes, 0)
+    word(bytes, 0).checked_sub(1)
 }
 
 // How many generations the class at a word position has. The first of them is one word on.

@@ -4,12 +4,12 @@ ghost use Rattle.model.specs.Dump.{fingerprints};
 ghost use Rattle.runs.specs.Over.{Fits, Puts};
 ghost use Rattle.generation.specs.Words.{Bounded};
 ghost use Rattle.dump.specs.Bytes.{Fits as FitsBytes, Puts as PutsBytes};
-ghost use Rattle.dump.specs.Parts.{Laid, LaidOut, part_words, part_length, parts_length, parts_held, count_before, floor_of, register_words, register_long};
+ghost use Rattle.dump.specs.Parts.{Laid, LaidOut, part_words, part_length, parts_length, parts_held, count_before, register_words, register_long};
 
 use crate::held::{Shape, Shown, count_held, put_rings, split_rings};
 use crate::output::{Element, put_all};
 use generation::Generation;
-use numbers::layout;
+use register::heading;
 
 // ---- one generation
 
@@ -80,17 +80,6 @@ fn ring_length(ring: &[u64], wide: usize) -> usize
 
 // ---- a register
 
-// The word that tells a floor: 0 where there is none, else one more than it, at most 2^64 − 1. The flag is the register's word, as it lies.
-fn floor_told(flag: u64, floor: u64) -> u64
-    ensures { result ≡ floor_of flag floor }
-{
-    if flag == 1 {
-        floor.saturating_add(1)
-    } else {
-        0
-    }
-}
-
 // How many bytes the dump of a register has.
 pub fn dump_length(words: &[u64], shape: Shape) -> usize
     requires { LaidOut shape.wide shape.ring words.now }
@@ -103,13 +92,14 @@ pub fn dump_length(words: &[u64], shape: Shape) -> usize
     8 * (4 + feeders + peers + own)
 }
 
-// Writes the dump of a register at the start of the output, and leaves what lies behind it.
+// Writes the dump of a register at the start of the output, and leaves what lies behind it. The word that tells the floor is 0 where there is
+// none, else one more than it, at most 2^64 − 1.
 pub fn put_dump(out: &mut [u8], words: &[u64], shape: Shape) -> usize
     requires laid { LaidOut shape.wide shape.ring words.now }
     requires fits { FitsBytes 0 (register_words shape.wide shape.ring words.now) out.old }
     ensures { PutsBytes 0 (register_words shape.wide shape.ring words.now) out.old out.new result }
 {
-    let floor = floor_told(words[layout::HAS_FLOOR], words[layout::FLOOR]);
+    let floor = heading::floor(words).map_or(0, |floor| floor.saturating_add(1));
     let next = u8::put(out, 0, floor);
     put_rings::<Dumped, u8>(out, next, words, shape)
 }

@@ -59,7 +59,7 @@ pub enum Manner {
     TakenBatch,
 }
 
-// How a register starts: with no floor, waiting for the host's number, or at a floor.
+// How a register starts: with no floor, waiting for the host's number, or at a floor. The enum and its names are the Rust's.
 #[derive(Clone, Copy, Debug, PartialEq, Eq)]
 pub enum Start {
     Empty,
@@ -99,6 +99,7 @@ pub enum Draw {
 }
 
 // The rule that gives a take's verdict, in the order in which the rules are tried; `Accepted` where none stands against the ticket.
+// `Accepted` is one of the sixteen rules that include/strikes.h numbers, so this is no Option of the others.
 #[derive(Clone, Copy, Debug, PartialEq, Eq)]
 pub enum Reason {
     Accepted,
@@ -196,7 +197,8 @@ pub struct Limits {
     pub relay: u64,
 }
 
-// All settings. Those of registers not below `registers` are not read.
+// All settings. Those of registers not below `registers` are not read: there are four registers at most, and nothing is taken from a heap,
+// so they are an array beside its number.
 #[derive(Clone, Copy)]
 pub struct Settings {
     pub registers: u64,

@@ -1,3 +1,4 @@
 pub mod Arithmetic
 pub mod Needed
 pub mod Placing
+pub mod Readers

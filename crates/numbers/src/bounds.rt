@@ -1,8 +1,9 @@
 // Settings and limits: read from the words that a host hands in, tested against their bounds, and the words that they need.
 ghost use Rattle.std.specs.List.{list_all};
 ghost use Rattle.std.specs.Prelude.{◌≡◌, true, ◌<◌, ◌≤◌, length};
-ghost use Rattle.model.specs.Settings.{usable_of as usable_from, usable_below as usable_read, no_usable as no_settings, settings_of as settings_in, limits_of as limits_in, usable_at, power_of_two, window_fit as window_within, usable_fit as usable_within, shares_fit as shares_within, limits_fit as limits_within, settings_fit as settings_within, register_words, book_words as places_words, words_needed as needed};
+ghost use Rattle.model.specs.Settings.{usable_below as usable_read, no_usable as no_settings, settings_of as settings_in, limits_of as limits_in, usable_at, power_of_two, window_fit as window_within, usable_fit as usable_within, shares_fit as shares_within, limits_fit as limits_within, settings_fit as settings_within, register_words, book_words as places_words, words_needed as needed};
 ghost use Rattle.model.specs.Most.{rings_most, book_most};
+ghost use Rattle.numbers.specs.Readers.{usable_said, shares_said};
 
 use crate::{layout, spans, starts};
 use model::{Limits, Settings, Shares, Usable, Window};
@@ -35,50 +36,59 @@ pub fn no_usable() -> Usable
     }
 }
 
-// The settings of a register, as they stand in the words.
-fn usable_of(st: &[u64], r: usize) -> Usable
-    requires { (r < 4) × (length st.now ≡ 29) }
-    ensures { result ≡ usable_from st.now r }
+// The settings of a register, as six words say them: of settings, and at the start of the register's own words.
+pub fn usable_of(words: &[u64]) -> Usable
+    requires { length words.now ≡ 6 }
+    ensures { result ≡ usable_said words.now }
 {
-    let a = 5 + 6 * r;
     Usable {
         origin: Window {
-            behind: st[a],
-            ahead: st[a + 1],
+            behind: words[0],
+            ahead: words[1],
         },
         copy: Window {
-            behind: st[a + 2],
-            ahead: st[a + 3],
+            behind: words[2],
+            ahead: words[3],
         },
-        bucket: st[a + 4],
-        slots: st[a + 5],
+        bucket: words[4],
+        slots: words[5],
     }
 }
 
-// The same, or none where there is no such register.
+// Those of the share book, as four words say them: of settings, and of the front.
+pub fn shares_of(words: &[u64]) -> Shares
+    requires { length words.now ≡ 4 }
+    ensures { result ≡ shares_said words.now }
+{
+    Shares {
+        places: words[0],
+        pairs: words[1],
+        feeder: words[2],
+        peer: words[3],
+    }
+}
+
+// The settings of a register, of all words of settings, or none where there is no such register.
+#[tactic(auto, using(crate::proofs::Readers::usable_part))]
 fn usable_below(st: &[u64], r: usize) -> Usable
     requires { (r < 4) × (length st.now ≡ 29) }
     ensures { result ≡ usable_read st.now r }
 {
     if (r as u64) < st[0] {
-        usable_of(st, r)
+        usable_of(&st[5 + 6 * r..][..6])
     } else {
         no_usable()
     }
 }
 
+#[tactic(auto, using(crate::proofs::Readers::shares_part))]
 pub fn settings_of(st: &[u64]) -> Settings
     requires { length st.now ≡ 29 }
     ensures { result ≡ settings_in st.now }
 {
     Settings {
         registers: st[0],
-        shares: Shares {
-            places: st[1],
-            pairs: st[2],
-            feeder: st[3],
-            peer: st[4],
-        },
+        shares: shares_of(&st[1..5]),
         usable: [
             usable_below(st, 0),
             usable_below(st, 1),
@@ -101,7 +111,8 @@ pub fn limits_of(ls: &[u64]) -> Limits
     }
 }
 
-// A power of two from 2 to 1,024, by its ten values, as the rules list them.
+// A power of two from 2 to 1,024, by its ten values, as the rules list them. The library's `is_power_of_two` would need both bounds beside it,
+// and a law that the two agree.
 #[tactic(auto, unfolding(model::specs::Settings::power_of_two))]
 pub fn is_power_of_two(n: u64) -> bool
     ensures { result ≡ power_of_two n }

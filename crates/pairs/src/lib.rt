@@ -1,7 +1,8 @@
 // A place's pairs of second and count, seconds rising, and how they lie in the place's cells: pair k in the cells 2k (its second)
 // and 2k + 1 (its count). Other crates move and clear places as wholes, and read or write no cell by itself; what these functions
 // do is said of lists of pairs. How many pairs there are stands beside the cells, which are all those that a place has: what a change
-// leaves behind the pairs is said here once, and not by each caller that would have to cut the cells at 2n.
+// leaves behind the pairs is said here once, and not by each caller that would have to cut the cells at 2n. So readers take n too: a
+// place's cells are lent whole, and n stands in the place's head.
 #![tactic(auto)]
 
 ghost use Rattle.std.specs.Prelude.{ℕ, ◌+◌, ◌*◌, ◌≤◌, ◌<◌, ◌≡◌, ◌&&◌, ◌++◌, length, drop, get_or, eqb};

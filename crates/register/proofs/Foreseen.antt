@@ -32,7 +32,7 @@ use Rattle.model.specs.Reason.{first_rule}
 use Rattle.model.proofs.Growth.{exponent}
 use Rattle.std.specs.Prelude.{Option, Some, None}
 use Rattle.std.specs.Ordering.{nat_cmp, ord_max}
-use Rattle.std.specs.Option.{MatchOption, option_cmp}
+use Rattle.std.specs.Option.{option_cmp}
 use Rattle.ring.proofs.Sweeping.{newest_is}
 use Rattle.ring.specs.Ring.{RingReads}
 use Rattle.ring.specs.Sweep.{swept_ring, swept_says, raised_by, Visits, holds_after, room_after}
@@ -43,12 +43,6 @@ use Rattle.register.specs.Seen.{left_by, class_holds, holder_left, late_rule, ju
 use Rattle.register.specs.Words.{RegisterWords, RegisterReads, RingAt}
 use Rattle.register.proofs.InRings.{ring_reads}
 use Rattle.register.proofs.Sweeps.{all_three, idle, back, on}
-
--- ---- the floor that was seen: whether a stamp is at or below it
-pub under_seen : (f : Option ℕ) (stamp : ℕ) (r : Bool) → MatchOption f (r ≡ false) (λ x. r ≡ leb stamp x) → r ≡ under stamp f
-unfolding under
-under_seen None stamp r h = h
-under_seen (Some x) stamp r h = h
 
 -- ---- a class's ring, and the three
 module _ (u : Usable) (c : Class) (p : RingExtent) (l : RingAt u c p) where

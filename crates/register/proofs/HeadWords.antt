@@ -1,24 +1,24 @@
 -- A register's own words, read and stored: of the words of a well-formed register, what specs/Heading says is what the rules say.
-use Prim.Native.Nat.{ℕ, ◌-◌, max}
+use Prim.Native.Nat.{ℕ, max}
 use native.Mathlib.Omega.{arith}
 use mathlib.Core.Path.{◌≡◌, refl, sym, ap, ◌∙◌}
-use mathlib.Core.Bool.{Bool, true, false, cond, ◌&&◌}
+use mathlib.Core.Bool.{Bool, true, false, cond}
 use mathlib.Core.List.{List}
-use lib.Dec.{leb, eqb}
+use lib.Dec.{leb}
 use lib.ListN.{set}
-use borrow.Author.Tests.{eq-eqb, ne_eqb, leb-true, leb-false}
+use borrow.Author.Tests.{leb-true, leb-false}
 use Rattle.runs.proofs.Cases.{by_test, no}
 use Rattle.runs.specs.Turns.{silent}
 use Rattle.std.proofs.Common.{Option, Some, None}
+use Rattle.std.specs.Option.{MatchOption}
 use Rattle.model.specs.declared.Usable.{Usable}
 use Rattle.model.specs.Numbers.{raise, under}
 use Rattle.model.specs.Register.{Register, with_floor, raised, swept_to, published, begin}
 use Rattle.model.specs.RegisterWords.{floor_flag, floor_word, read_floor, read_heading, register_form}
-use Rattle.model.specs.Dump.{raised_to_dumped}
 use Rattle.model.proofs.RegisterWords.{flag_read}
 use Rattle.numbers.specs.Layout.{pending_at}
 use Rattle.register.specs.Rules.{raised_with, begin_says, swept_answer, floor_gone}
-use Rattle.register.specs.Heading.{published_in, swept_in, sweep_stored, floor_stored, floor_raised, floor_raised_by, floor_dumped, begun_in, begin_told}
+use Rattle.register.specs.Heading.{published_in, swept_in, sweep_stored, floor_stored, floor_raised, floor_raised_by, begun_in, begin_told}
 use Rattle.register.specs.Words.{RegisterReads, RegisterTurns}
 
 -- ---- a floor and its two words
@@ -26,10 +26,11 @@ floor_back : (f : Option ℕ) → read_floor (floor_flag f) (floor_word f) ≡ f
 floor_back None = refl
 floor_back (Some f) = refl
 
--- what the code answers of any two words
-pub under_words : (stamp flag floor : ℕ) → (eqb flag 1 && leb stamp floor) ≡ under stamp (read_floor flag floor)
+-- whether a stamp is at or below a floor
+pub under_floor : (f : Option ℕ) (stamp : ℕ) (r : Bool) → MatchOption f (r ≡ false) (λ x. r ≡ leb stamp x) → r ≡ under stamp f
 unfolding under
-under_words stamp flag floor = by_test (eqb flag 1) (λ e. rw e) (λ e. rw e)
+under_floor None stamp r h = h
+under_floor (Some x) stamp r h = h
 
 floor_stays : (stamp : ℕ) (f : Option ℕ) → under stamp f ≡ true → f ≡ raise f stamp
 unfolding under raise
@@ -55,6 +56,10 @@ module _ (u : Usable) (ws : List ℕ) where
   -- whatever is told of the floor
   pub floor_reads : {R : Type 0} (f : Option ℕ → R) → RegisterReads u (λ reg. f reg.floor) ws (f (read_heading ws).floor)
   floor_reads f = record { says = λ reg ok is. ap f (floor_read u reg ws is) }
+
+  pub under_reads : (stamp : ℕ) {f : Option ℕ} (b : Bool) → RegisterReads u (λ reg. reg.floor) ws f → b ≡ under stamp f
+      → RegisterReads u (λ reg. under stamp reg.floor) ws b
+  under_reads stamp b f e = record { says = λ reg ok is. e ∙ ap (under stamp) (f.says reg ok is) }
 
   pub swept_reads : RegisterReads u (swept_answer u) ws (swept_in ws)
   swept_reads = record { says = λ reg ok is. ap swept_in is }
@@ -85,7 +90,7 @@ module _ (stamp : ℕ) (ws : List ℕ) where
         (λ t. (a ∙ sym (raise_moves t) ∙ ap (floor_stored (Some stamp)) is ∙ with_its u reg (floor_moves stamp reg.floor (sym e ∙ t)), refl));
   }
 
--- by what a drop forgot
+-- by a stamp that there may be
 module _ (d : Option ℕ) (ws : List ℕ) where
   pub by_newest : (stamp : ℕ) (last : List ℕ) → d ≡ Some stamp → last ≡ floor_raised stamp ws → last ≡ floor_raised_by d ws
   by_newest stamp last e a = rw e a
@@ -130,21 +135,6 @@ module _ (number : ℕ) (ws : List ℕ) where
         (a.0 ∙ rw t (is ∙ ap (register_form u).enc (begin_idle number reg p)), a.1 ∙ rw (t, p)));
   }
 
--- ---- the floor forgotten, and raised to a dump's
+-- ---- the floor forgotten
 pub forget_turns : (ws : List ℕ) (u : Usable) → RegisterTurns u floor_gone silent ws (floor_stored None ws) (tt {0})
 forget_turns ws u = record { does = λ reg ok is. (ap (floor_stored None) is, refl) }
-
-module _ (n : ℕ) (ws : List ℕ) where
-  pub dumped_none : n ≡ 0 → ws ≡ floor_dumped n ws
-  dumped_none e = rw (eq-eqb n 0 e)
-
-  pub dumped_some : (last : List ℕ) → (n ≡ 0 → ⊥) → last ≡ floor_raised (n - 1) ws → last ≡ floor_dumped n ws
-  dumped_some last e a = rw (ne_eqb n 0 e) a
-
-  pub dumped_turns : (u : Usable) (after : List ℕ) → after ≡ floor_dumped n ws → RegisterTurns u (raised_to_dumped n) silent ws after (tt {0})
-  unfolding raised_to_dumped
-  dumped_turns u after a =
-      by_test (eqb n 0) (λ t. let e : after ≡ ws = rw t at a in record { does = λ reg ok is. (rw t (e ∙ is), refl) })
-      (λ t.
-      let raised = raise_turns (n - 1) ws u after (rw t at a) in
-      record { does = λ reg ok is. (rw t (raised.does reg ok is).0, refl) })

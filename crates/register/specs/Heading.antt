@@ -1,6 +1,6 @@
 -- What a register's own words say and become, whatever words they are. Of the words of a well-formed register it is what the rules
 -- say: the contracts that cite this say that beside it. Readers go by `read_heading` of the model.
-use Rattle.std.specs.Prelude.{ℕ, ◌-◌, Bool, cond, Option, Some, None, List, eqb, get_or, set}
+use Rattle.std.specs.Prelude.{ℕ, Bool, cond, Option, Some, None, List, get_or, set}
 use Rattle.model.specs.declared.Usable.{Usable}
 use Rattle.model.specs.Numbers.{under}
 use Rattle.model.specs.Register.{published}
@@ -26,14 +26,10 @@ floor_stored f ws = set (set ws has_floor_at (floor_flag f)) floor_at (floor_wor
 unfoldable pub floor_raised : ℕ → List ℕ → List ℕ
 floor_raised stamp ws = cond (under stamp (read_heading ws).floor) ws (floor_stored (Some stamp) ws)
 
--- by what a drop forgot
+-- by a stamp that there may be
 abbrev pub floor_raised_by : Option ℕ → List ℕ → List ℕ
 floor_raised_by None ws = ws
 floor_raised_by (Some stamp) ws = floor_raised stamp ws
-
--- to a dump's floor: 0 is none, and otherwise the floor and 1
-abbrev pub floor_dumped : ℕ → List ℕ → List ℕ
-floor_dumped n ws = cond (eqb n 0) ws (floor_raised (n - 1) ws)
 
 -- ---- begin
 abbrev pub begun_in : ℕ → List ℕ → List ℕ

@@ -1,10 +1,8 @@
-// What restore and resume ask of a register besides strikes: a generation that failed is forgotten, and the floor is raised,
-// or forgotten.
+// What restore and resume ask of a register besides strikes and a raised floor: a generation that failed is forgotten, and the floor is forgotten.
 ghost use Rattle.std.specs.Prelude.{◌≡◌, ◌≤◌, length};
 ghost use Rattle.runs.specs.Turns.{silent};
 ghost use Rattle.model.specs.declared.Usable.{Usable};
-ghost use Rattle.model.specs.Dump.{raised_to_dumped};
-ghost use Rattle.register.specs.Heading.{floor_stored, floor_dumped};
+ghost use Rattle.register.specs.Heading.{floor_stored};
 ghost use Rattle.register.specs.Rules.{failed_at, floor_gone};
 ghost use Rattle.register.specs.Words.{RegisterWords, RegisterTurns};
 
@@ -32,15 +30,4 @@ pub fn forget_floor(part: &mut [u64])
 {
     part[layout::HAS_FLOOR] = 0;
     part[layout::FLOOR] = 0;
-}
-
-// Raises the floor to a dump's: 0 is none, and otherwise the floor and 1.
-pub fn raise_to_dumped(part: &mut [u64], floor: u64)
-    requires { 24 ≤ length part.old }
-    ensures part_after { part.new ≡ floor_dumped floor part.old }
-    ensures register_turns { (u : Usable) → RegisterTurns u (raised_to_dumped floor) silent part.old part.new (tt {0}) }
-{
-    if floor != 0 {
-        heading::raise_floor(part, floor - 1);
-    }
 }

@@ -60,13 +60,11 @@ pub fn published_sweep(part: &[u64]) -> Judged
     Judged(part[layout::PUBLISHED])
 }
 
-// Whether a stamp is at or below the floor.
-pub(crate) fn is_under(part: &[u64], stamp: u64) -> bool
-    requires { 24 ≤ length part.now }
-    ensures value { result ≡ under stamp (read_heading part.now).floor }
-    ensures register_reads { (u : Usable) → RegisterReads u (λ reg. under stamp reg.floor) part.now result }
+// Whether a stamp is at or below a floor.
+pub(crate) fn is_under(floor: Option<u64>, stamp: u64) -> bool
+    ensures { result ≡ under stamp floor }
 {
-    (part[layout::HAS_FLOOR] == 1) & (stamp <= part[layout::FLOOR])
+    floor.is_some_and(|floor| stamp <= floor)
 }
 
 // Raises the floor: it never falls, and one that is absent becomes the stamp.
@@ -75,14 +73,14 @@ pub fn raise_floor(part: &mut [u64], stamp: u64)
     ensures part_after { part.new ≡ floor_raised stamp part.old }
     ensures register_turns { (u : Usable) → RegisterTurns u (raised stamp) silent part.old part.new (tt {0}) }
 {
-    if !is_under(part, stamp) {
+    if !is_under(floor(part), stamp) {
         part[layout::HAS_FLOOR] = 1;
         part[layout::FLOOR] = stamp;
     }
 }
 
-// The same by what a drop forgot.
-pub(crate) fn raise_by(part: &mut [u64], went: Option<u64>)
+// The same by a stamp that there may be: what a drop forgot, or another floor.
+pub fn raise_by(part: &mut [u64], went: Option<u64>)
     requires { 24 ≤ length part.old }
     ensures part_after { part.new ≡ floor_raised_by went part.old }
     ensures register_turns { (u : Usable) → RegisterTurns u (raised_with went) silent part.old part.new (tt {0}) }

@@ -8,7 +8,8 @@ use crate::{heading, rings, sweeping};
 use model::{Deliverer, Judged, Usable, Verdict};
 use numbers::spans;
 
-// A ticket, the reading with its judging flag, and who delivers it. The flag says nothing of another field: so it stands by itself.
+// A ticket, the reading with its judging flag, and who delivers it. With the flag off the reading judges nothing. It is no Option of a
+// reading: the rules' `Ask` has the reading and the flag, as the Rust has.
 #[derive(Clone, Copy)]
 pub struct Ask {
     pub fp: u64,
@@ -25,7 +26,7 @@ fn verdict(part: &[u64], u: Usable, ask: Ask) -> Verdict
 {
     let bucket = spans::bucket_of(u, ask.stamp);
     let held = rings::holds_any_class(part, u, bucket, spans::as_read(ask.fp));
-    let under = heading::is_under(part, ask.stamp);
+    let under = heading::is_under(heading::floor(part), ask.stamp);
     let within = spans::in_window(spans::window_for(u, ask.who), ask.stamp, ask.now);
     if held {
         Verdict::Duplicate

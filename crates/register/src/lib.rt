@@ -10,7 +10,7 @@ mod peeking;
 mod rings;
 mod sweeping;
 
-pub use forgetting::{fail, forget_floor, raise_to_dumped};
+pub use forgetting::{fail, forget_floor};
 pub use judging::{Ask, ahead_for, judge, judge_batch};
 pub use peeking::{Seen, judge_after, room_after, see};
 pub use rings::{bucket_at, contains_hash, room, strike};

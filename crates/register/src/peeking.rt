@@ -1,7 +1,6 @@
 // A register as the sweep of a reading would leave it, read without one: no word is written, and none is copied. What the sweep would do is
 // seen once, and then any number of tickets may be asked about.
 ghost use Rattle.std.specs.Prelude.{◌≡◌, ◌<◌};
-ghost use Rattle.model.specs.Numbers.{under};
 ghost use Rattle.ring.specs.Ring.{PositionOf};
 ghost use Rattle.register.specs.Rules.{asked_by};
 ghost use Rattle.register.specs.Seen.{Sees, newest_of_class, seen_rings, seen_by, class_holds, holder_left, late_rule, judge_rule, room_left};
@@ -18,13 +17,6 @@ use ring::Buckets;
 pub struct Seen {
     pub buckets: Buckets,
     pub floor: Option<u64>,
-}
-
-// Whether a stamp is at or below the floor.
-fn is_under(seen: Seen, stamp: u64) -> bool
-    ensures { result ≡ under stamp seen.floor }
-{
-    seen.floor.is_some_and(|floor| stamp <= floor)
 }
 
 // The newest that would go of a class's ring.
@@ -120,7 +112,7 @@ fn late_after(u: Usable, seen: Seen, ask: Ask) -> Reason
     let window = spans::window_for(u, ask.who);
     let within = spans::in_window(window, ask.stamp, ask.now);
     let past = spans::front_past(window, ask.stamp, ask.now);
-    if is_under(seen, ask.stamp) {
+    if heading::is_under(seen.floor, ask.stamp) {
         Reason::Floor
     } else if within {
         Reason::Accepted

@@ -1,11 +1,12 @@
 -- The generations of a class one after the other, and the classes of a dump. Assumes nothing.
-use Prim.Native.Nat.{ℕ, ◌+◌, ◌-◌, ◌/◌, ◌<◌, ◌≤◌}
+use Prim.Native.Nat.{ℕ, zero, suc, ◌+◌, ◌-◌, ◌/◌, ◌<◌, ◌≤◌}
 use native.Mathlib.Omega.{arith}
 use mathlib.Core.Path.{◌≡◌, refl, sym, ap, subst, ◌∙◌}
 use mathlib.Core.Bool.{Bool, true, ◌&&◌}
 use mathlib.Core.List.{List, [], ◌∷◌}
 use Rattle.std.specs.Prelude.{Option, None, Some}
 use lib.ListN.{length, get_or}
+use borrow.Author.Tests.{ne_eqb}
 use Rattle.runs.proofs.Cases.{by_test}
 use Rattle.runs.specs.Turns.{silent}
 use Rattle.model.specs.declared.Class.{Class}
@@ -13,11 +14,11 @@ use Rattle.model.specs.declared.Class.TheVariants.{Feeders, Peers, Own}
 use Rattle.model.specs.declared.Settings.{Settings}
 use Rattle.model.specs.Settings.{usable_at}
 use Rattle.model.specs.Book.{Book}
-use Rattle.model.specs.Register.{Register, raised}
+use Rattle.model.specs.Register.{Register}
 use Rattle.model.specs.Dump.{Dumped, Dump, Holding, Restoring, words_of, hold_all, settled, restore_class, raised_to_dumped, restore, raised_to_proven, resume}
 use Rattle.model.specs.Calls.{restored, resumed, after_restored}
-use Rattle.register.specs.Rules.{floor_gone}
-use Rattle.dump.specs.Walk.{dumped_at, next_at, dumped_from, class_dumped, class_end, Walks, ClassWalks}
+use Rattle.register.specs.Rules.{floor_gone, raised_with}
+use Rattle.dump.specs.Walk.{told_by, dumped_at, next_at, dumped_from, class_dumped, class_end, Walks, ClassWalks}
 use Rattle.dump.proofs.Walks.{walk_next, walk_done}
 use Rattle.taking.specs.Words.{RunWords, StateTurns}
 use Rattle.restoring.specs.declared.heads.Head.{Head}
@@ -105,7 +106,14 @@ module _ (s : Settings) (r : ℕ) where
         )
 
   -- ---- a dump
-  pub dump_acts : (d : Dump) (ws a b e last : List ℕ) (x y z : Bool) → Acts s r (λ reg k. raised_to_dumped d.floor reg) (λ reg k. k) (λ reg. silent) ws a (tt {0})
+  -- the floor that a dump tells raises it as the dump's word does
+  told_acts : (n : ℕ) (ws last : List ℕ) → Acts s r (λ reg k. raised_with (told_by n) reg) (λ reg k. k) (λ reg. silent) ws last (tt {0})
+      → Acts s r (λ reg k. raised_to_dumped n reg) (λ reg k. k) (λ reg. silent) ws last (tt {0})
+  unfolding told_by raised_to_dumped
+  told_acts zero ws last a = a
+  told_acts (suc n) ws last a = let e : suc n - 1 ≡ n = omega arith in rw (ne_eqb (suc n) 0 (λ z. omega (arith, z)), e) a
+
+  pub dump_acts : (d : Dump) (ws a b e last : List ℕ) (x y z : Bool) → Acts s r (λ reg k. raised_with (told_by d.floor) reg) (λ reg k. k) (λ reg. silent) ws a (tt {0})
       → RestoreActs s r (class_restored s r Feeders d.classes.of_feeders true) a b x
       → RestoreActs s r (class_restored s r Peers d.classes.of_peers x) b e y
       → RestoreActs s r (class_restored s r Own d.classes.of_own y) e last z
@@ -118,7 +126,7 @@ module _ (s : Settings) (r : ℕ) where
       let c2 : Register → Book → Restoring = λ reg k. restore_class (usable_at s r) s.shares Own d.classes.of_own (class_restored s r Peers d.classes.of_peers x reg k) in
       let c3 : Register → Book → Restoring = λ reg k. class_restored s r Own d.classes.of_own y reg k in
       let r0 : Rest s r ws ws goal goal = rest_start s r ws goal goal (λ reg k. refl) in
-      let r1 : Rest s r ws a c1 goal = rest_step s r ws ws a goal goal c1 r0 p (λ reg k t. refl) in
+      let r1 : Rest s r ws a c1 goal = rest_step s r ws ws a goal goal c1 r0 (told_acts d.floor ws a p) (λ reg k t. refl) in
       let r2 : Rest s r ws b c2 goal = rest_step s r ws a b c1 goal c2 r1 q
       (λ reg k t.
       let m = class_restored s r Feeders d.classes.of_feeders true reg k in
@@ -150,24 +158,21 @@ module _ (s : Settings) (r : ℕ) where
     unfolding resumed after_restored
     resume_turns p ws last v a = acts_turns s r h ws last a
 
-    pub resume_plain : (proven : Option ℕ) (ws mid last : List ℕ) (v : Bool) → proven ≡ None
-        → Acts s r (λ reg k. floor_gone reg) (λ reg k. k) (λ reg. silent) ws mid (tt {0}) → RestoreActs s r (dump_restored s r d) mid last v
-        → StateTurns s (λ t. (resumed s r t proven (Some d)).state) (resumed_whole s r d proven) ws last v
-    unfolding resume raised_to_proven
-    resume_plain proven ws mid last v e a b =
-        let acts : RestoreActs s r (resume_to None) ws last v = record { does = λ t reg k n. b.does t (floor_gone reg) k (a.does t reg k n).0 } in
-        rw e (resume_turns None ws last v acts)
+    -- a proven floor raises it after
+    proven_acts : (p : Option ℕ) (ws last : List ℕ) → Acts s r (λ reg k. raised_with p reg) (λ reg k. k) (λ reg. silent) ws last (tt {0})
+        → Acts s r (λ reg k. raised_to_proven p reg) (λ reg k. k) (λ reg. silent) ws last (tt {0})
+    unfolding raised_to_proven
+    proven_acts None ws last a = a
+    proven_acts (Some f) ws last a = a
 
-    pub resume_proven : (proven : Option ℕ) (floor : ℕ) (ws mid back last : List ℕ) (v : Bool) → proven ≡ Some floor
+    pub resume_raised : (proven : Option ℕ) (ws mid back last : List ℕ) (v : Bool)
         → Acts s r (λ reg k. floor_gone reg) (λ reg k. k) (λ reg. silent) ws mid (tt {0}) → RestoreActs s r (dump_restored s r d) mid back v
-        → Acts s r (λ reg k. raised floor reg) (λ reg k. k) (λ reg. silent) back last (tt {0})
+        → Acts s r (λ reg k. raised_with proven reg) (λ reg k. k) (λ reg. silent) back last (tt {0})
         → StateTurns s (λ t. (resumed s r t proven (Some d)).state) (resumed_whole s r d proven) ws last v
-    unfolding resume raised_to_proven
-    resume_proven proven floor ws mid back last v e a b f =
-        let acts : RestoreActs s r (resume_to (Some floor)) ws last v = record {
-          does = λ t reg k n.
-              let x = b.does t (floor_gone reg) k (a.does t reg k n).0 in
-              let y = dump_restored s r d (floor_gone reg) k in
-              ((f.does t y.register y.book x.0).0, x.1);
-        } in
-        rw e (resume_turns (Some floor) ws last v acts)
+    unfolding resume
+    resume_raised proven ws mid back last v a b f = resume_turns proven ws last v (record {
+      does = λ t reg k n.
+          let x = b.does t (floor_gone reg) k (a.does t reg k n).0 in
+          let y = dump_restored s r d (floor_gone reg) k in
+          (((proven_acts proven back last f).does t y.register y.book x.0).0, x.1);
+    })

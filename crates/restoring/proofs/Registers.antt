@@ -3,7 +3,7 @@ use Prim.Native.Nat.{ℕ, ◌-◌, ◌<◌, ◌≤◌}
 use mathlib.Core.Path.{◌≡◌, refl, sym, ap, subst, ◌∙◌}
 use mathlib.Core.Bool.{Bool, true, false}
 use mathlib.Core.List.{List, []}
-use Rattle.std.specs.Prelude.{None}
+use Rattle.std.specs.Prelude.{Option, None}
 use borrow.Rule.Slice.PartMut.{mid_of, put_mid}
 use Rattle.runs.specs.Turns.{silent}
 use Rattle.model.specs.RegisterWords.{register_form}
@@ -15,15 +15,15 @@ use Rattle.model.specs.declared.Usable.{Usable}
 use Rattle.model.specs.Settings.{usable_at}
 use Rattle.model.specs.Class.{pick}
 use Rattle.model.specs.Generation.{as_read}
-use Rattle.model.specs.Register.{Register, raised, strike}
+use Rattle.model.specs.Register.{Register, strike}
 use Rattle.model.specs.Judge.{make_room}
-use Rattle.model.specs.Dump.{failed, raised_to_dumped}
+use Rattle.model.specs.Dump.{failed}
 use Rattle.model.proofs.Bounds.{fit_usable, slots_small}
 use Rattle.model.proofs.Judging.{read_positive}
 use Rattle.model.proofs.RingsKept.{RegisterOk, strike_ok, failed_ok, floor_ok}
 use Rattle.numbers.specs.declared.starts.RegisterExtent.{RegisterExtent}
 use Rattle.numbers.specs.RegisterAt.{RegisterAt}
-use Rattle.register.specs.Rules.{failed_at, floor_gone}
+use Rattle.register.specs.Rules.{failed_at, floor_gone, raised_with}
 use Rattle.register.specs.Words.{RegisterReads, RegisterTurns}
 use Rattle.taking.specs.Words.{RunWords}
 use Rattle.restoring.specs.declared.heads.Head.{Head}
@@ -78,10 +78,6 @@ failed_fine : (u : Usable) (c : Class) (b newest : ℕ) (reg : Register) → Reg
 unfolding failed
 failed_fine u c b newest reg ok = failed_ok u c (record { bucket = b; newest = newest; prints = [] }) reg ok
 
-dumped_fine : (u : Usable) (n : ℕ) (reg : Register) → RegisterOk u reg → RegisterOk u (raised_to_dumped n reg)
-unfolding raised_to_dumped
-dumped_fine u n reg ok = floor_ok u _ reg ok
-
 -- ---- in the run
 module _ (s : Settings) (r : ℕ) (q : r < s.registers) (p : RegisterExtent) (l : RegisterAt s r p) (ws last : List ℕ) (w : RunWords s ws) where
   abbrev part : List ℕ
@@ -106,20 +102,14 @@ module _ (s : Settings) (r : ℕ) (q : r < s.registers) (p : RegisterExtent) (l 
       (failed_fine (usable_at s r) h.class h.bucket.0 h.newest) t in
       (acts_words s r q ws after w a, a)
 
-  pub dumped_acts : (n : ℕ) → ((u : Usable) → RegisterTurns u (raised_to_dumped n) silent part last (tt {0}))
-      → RunWords s after × Acts s r (λ reg k. raised_to_dumped n reg) (λ reg k. k) (λ reg. silent) ws after (tt {0})
-  dumped_acts n t =
-      let a = register_acts s r q p l ws (raised_to_dumped n) silent last (tt {0}) (dumped_fine (usable_at s r) n) (t p.u) in
-      (acts_words s r q ws after w a, a)
-
   pub forget_acts : ((u : Usable) → RegisterTurns u floor_gone silent part last (tt {0}))
       → RunWords s after × Acts s r (λ reg k. floor_gone reg) (λ reg k. k) (λ reg. silent) ws after (tt {0})
   forget_acts t =
       let a = register_acts s r q p l ws floor_gone silent last (tt {0}) (λ reg ok. floor_ok (usable_at s r) None reg ok) (t p.u) in
       (acts_words s r q ws after w a, a)
 
-  pub raise_acts : (n : ℕ) → ((u : Usable) → RegisterTurns u (raised n) silent part last (tt {0}))
-      → RunWords s after × Acts s r (λ reg k. raised n reg) (λ reg k. k) (λ reg. silent) ws after (tt {0})
-  raise_acts n t =
-      let a = register_acts s r q p l ws (raised n) silent last (tt {0}) (λ reg ok. floor_ok (usable_at s r) _ reg ok) (t p.u) in
+  pub raise_acts : (f : Option ℕ) → ((u : Usable) → RegisterTurns u (raised_with f) silent part last (tt {0}))
+      → RunWords s after × Acts s r (λ reg k. raised_with f reg) (λ reg k. k) (λ reg. silent) ws after (tt {0})
+  raise_acts f t =
+      let a = register_acts s r q p l ws (raised_with f) silent last (tt {0}) (λ reg ok. floor_ok (usable_at s r) _ reg ok) (t p.u) in
       (acts_words s r q ws after w a, a)

@@ -23,8 +23,7 @@ fn restore_dump(run: &mut [u64], on: &OneRegister, bytes: &[u8]) -> bool
     requires { RunWords on.now.s run.old × Whole bytes.now (dump_end (words_of bytes.now)) }
     ensures { RunWords on.now.s run.new × RestoreActs on.now.s on.now.r (dump_restored on.now.s on.now.r (dump_at (words_of bytes.now))) run.old run.new result }
 {
-    let floor = dump::floor_word(bytes);
-    on_register::raise_to_dumped(run, on, floor);
+    on_register::raise_floor(run, on, dump::told_floor(bytes));
     let feeders = classes::restore_class(run, on, Class::Feeders, bytes, 1, true);
     let peers = classes::restore_class(run, on, Class::Peers, bytes, feeders.next, feeders.whole);
     let own = classes::restore_class(run, on, Class::Own, bytes, peers.next, peers.whole);
@@ -56,9 +55,6 @@ pub fn resume(run: &mut [u64], s: Settings, r: usize, bytes: &[u8], proven: Opti
     };
     on_register::forget_floor(run, &on);
     let whole = restore_dump(run, &on, bytes);
-    let Some(floor) = proven else {
-        return whole;
-    };
-    on_register::raise_floor(run, &on, floor);
+    on_register::raise_floor(run, &on, proven);
     whole
 }

@@ -1,9 +1,7 @@
 // What a restore asks of one register, in the whole run. Where the register lies is computed once for a restore.
 ghost use Rattle.runs.specs.Turns.{silent};
 ghost use Rattle.model.specs.Settings.{usable_at};
-ghost use Rattle.model.specs.Register.{raised};
-ghost use Rattle.model.specs.Dump.{raised_to_dumped};
-ghost use Rattle.register.specs.Rules.{failed_at, floor_gone};
+ghost use Rattle.register.specs.Rules.{failed_at, floor_gone, raised_with};
 ghost use Rattle.register.specs.Words.{RegisterWords, RegisterTurns};
 ghost use Rattle.taking.specs.Words.{RunWords};
 ghost use Rattle.restoring.specs.Rules.{room_in, fits_in, held_in};
@@ -50,14 +48,6 @@ pub fn fail(run: &mut [u64], on: &OneRegister, h: Head)
     );
 }
 
-// The floor is raised to a dump's.
-pub fn raise_to_dumped(run: &mut [u64], on: &OneRegister, floor: u64)
-    requires { RunWords on.now.s run.old }
-    ensures { RunWords on.now.s run.new × Acts on.now.s on.now.r (λ reg k. raised_to_dumped floor reg) (λ reg k. k) (λ reg. silent) run.old run.new (tt {0}) }
-{
-    register::raise_to_dumped(&mut run[on.extent.start..on.extent.end], floor);
-}
-
 // The floor is forgotten.
 pub fn forget_floor(run: &mut [u64], on: &OneRegister)
     requires { RunWords on.now.s run.old }
@@ -66,10 +56,10 @@ pub fn forget_floor(run: &mut [u64], on: &OneRegister)
     register::forget_floor(&mut run[on.extent.start..on.extent.end]);
 }
 
-// The floor is raised to a stamp.
-pub fn raise_floor(run: &mut [u64], on: &OneRegister, stamp: u64)
+// The floor is raised to another, if there is one.
+pub fn raise_floor(run: &mut [u64], on: &OneRegister, floor: Option<u64>)
     requires { RunWords on.now.s run.old }
-    ensures { RunWords on.now.s run.new × Acts on.now.s on.now.r (λ reg k. raised stamp reg) (λ reg k. k) (λ reg. silent) run.old run.new (tt {0}) }
+    ensures { RunWords on.now.s run.new × Acts on.now.s on.now.r (λ reg k. raised_with floor reg) (λ reg k. k) (λ reg. silent) run.old run.new (tt {0}) }
 {
-    register::heading::raise_floor(&mut run[on.extent.start..on.extent.end], stamp);
+    register::heading::raise_by(&mut run[on.extent.start..on.extent.end], floor);
 }

@@ -57,7 +57,7 @@ impl TryFrom<Asking> for Ask {
     }
 }
 
-// What a restore brought in, with the bytes that it read.
+// What a restore brought in, with the bytes that it read. The enum and its names are the Rust's.
 #[derive(Clone, Copy, Debug, PartialEq, Eq)]
 pub enum Restored {
     // All of the dump.

@@ -6,7 +6,7 @@ ghost use Rattle.model.specs.RegisterWords.{each_form, ring_form, register_form,
 ghost use Rattle.model.specs.Words.{front_sound as front_rule, book_form, registers_form, unused_width, class_width, ring_width, register_width};
 ghost use Rattle.model.specs.Calls.{sound};
 
-use model::{Bucket, Class, Limits, Settings, Shares, Usable, Window};
+use model::{Bucket, Class, Settings, Usable};
 use numbers::{bounds, layout, spans, starts};
 
 // The front: it keeps the settings that the call brings, its limits are in bounds, and the closed flag is a flag.
@@ -14,19 +14,10 @@ fn front_sound(s: Settings, front: &[u64]) -> bool
     requires { length front.now ≡ 20 }
     ensures { result ≡ front_rule s front.now }
 {
-    let limits = bounds::limits_fit(Limits {
-        feeder: front[layout::FEEDER_LIMIT],
-        feeders: front[layout::FEEDERS_LIMIT],
-        peer: front[layout::PEER_LIMIT],
-        peers: front[layout::PEERS_LIMIT],
-        relay: front[layout::RELAY_LIMIT],
-    });
-    let shares = Shares {
-        places: front[layout::PLACES],
-        pairs: front[layout::PAIRS],
-        feeder: front[layout::FEEDER_UNITS],
-        peer: front[layout::PEER_UNITS],
-    };
+    let limits = bounds::limits_fit(bounds::limits_of(
+        &front[layout::FEEDER_LIMIT..layout::CLOSED],
+    ));
+    let shares = bounds::shares_of(&front[layout::PLACES..layout::FEEDER_LIMIT]);
     let kept = (front[layout::REGISTERS] == s.registers) & (shares == s.shares);
     kept & (limits & (front[layout::CLOSED] <= 1))
 }
@@ -38,19 +29,7 @@ fn heading_sound(u: Usable, heading: &[u64]) -> bool
     ensures { result ≡ heading_rule u heading.now }
 {
     let published = spans::published(u, Bucket(heading[layout::SWEPT]));
-    let usable = Usable {
-        origin: Window {
-            behind: heading[layout::ORIGIN_BEHIND],
-            ahead: heading[layout::ORIGIN_AHEAD],
-        },
-        copy: Window {
-            behind: heading[layout::COPY_BEHIND],
-            ahead: heading[layout::COPY_AHEAD],
-        },
-        bucket: heading[layout::BUCKET],
-        slots: heading[layout::SLOTS],
-    };
-    let kept = usable == u;
+    let kept = bounds::usable_of(&heading[0..layout::SWEPT]) == u;
     let floor = (heading[layout::HAS_FLOOR] <= 1)
         & ((heading[layout::HAS_FLOOR] == 1) | (heading[layout::FLOOR] == 0));
     kept & ((heading[layout::PUBLISHED] == published.0) & (floor & (heading[layout::PENDING] <= 1)))
@@ -85,7 +64,8 @@ fn register_sound(u: Usable, register: &[u64]) -> bool
     rings_sound(u, &register[layout::HEADING..])
 }
 
-// All registers, each of its own width, one after the other; the unused words behind them are free.
+// All registers, each of its own width, one after the other; the unused words behind them are free. The answer is kept to the end, as the
+// rules take it: sound words, which a call nearly always brings, are looked through to the end in any case.
 fn registers_sound(s: Settings, words: &[u64]) -> bool
     requires { (settings_fit s ≡ true) × ((registers_form s).wide ≤ length words.now) }
     ensures { result ≡ (both (registers_form s) (free (unused_width s))).test words.now }

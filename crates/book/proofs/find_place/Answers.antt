@@ -1,21 +1,12 @@
-use Rattle.book.proofs.Finding.{seek_end, seek_stop, seek_on}
+use Rattle.std.proofs.Common.{◌∙◌, rules}
+use Rattle.std.proofs.lemmas.Iterator.Search.{position_from_yields_List}
+use Rattle.book.proofs.Finding.{named, used_chunks, place_says}
 use Rattle.book.proofs.find_place.Goals as goal
-
-pub returns-then-names : goal.returns-then-names
-returns-then-names c =
-    let s = c.args in
-    let w = c.requires in
-    seek_stop s.shares s.who s.part.now w c.loop-i.i (c.loop-i.invariant w) c.loop-i-test.true _ c.place_start-a.ensures.0 _
-    c.names.ensures c.if-names.true
-
-pub loop-i-preserved : goal.loop-i-preserved
-loop-i-preserved c =
-    let s = c.args in
-    λ w. seek_on s.shares s.who s.part.now w c.loop-i.i (c.loop-i.invariant w) c.loop-i-test.true _ c.place_start-a.ensures.0 _
-    c.names.ensures c.if-names.false
 
 pub returns : goal.returns
 returns c =
     let s = c.args in
-    let w = c.requires in
-    seek_end s.shares s.who s.part.now w c.loop-i.i (c.loop-i.invariant w) c.loop-i-test.false
+    let cut = c.chunks_exact.ensures in
+    place_says s.shares s.who s.part.now c.requires _
+    (position_from_yields_List (named s.who) _ _ _ c.position.ensures.ran
+    (used_chunks s.shares s.who s.part.now c.requires _ c.place_start-used.ensures.0 _ (cut.size ∙ c.place_width.ensures.0) cut.rest) (λ x r q k. search rules))

@@ -1,3 +1,5 @@
+use Rattle.std.proofs.Common.{ap, ◌∙◌, eqb}
+use Rattle.std.specs.Bool.{then_some}
 use Rattle.book.proofs.Entering.{found_of}
 use Rattle.book.proofs.Returning.{untake_asks, untakes_none, listed_of, untakes}
 use Rattle.book.proofs.untake.Goals as goal
@@ -10,8 +12,9 @@ returns-in_default c =
 pub untake-requires : goal.untake-requires
 untake-requires c =
     let s = c.args in
-    untake_asks s.shares s.who s.part.now _ (found_of s.shares s.who s.second.0 s.part.now c.requires _ c.find-spot.ensures) _ c.in-Ok.is _ _ _
-    _ c.place_units.ensures c.only_if-gone.ensures c.only_if-freed.ensures c.read-totals.ensures
+    let o = c.then_some.ensures ∙ ap (then_some (eqb c.find-spot.result.seen.entries 1)) c.place_units-place.ensures in
+    untake_asks s.shares s.who s.part.now _ (found_of s.shares s.who s.second.0 s.part.now c.requires _ c.find-spot.ensures) _ c.in-Ok.is _ _ o
+    c.read-totals.ensures
 
 pub return_place-requires : goal.return_place-requires
 return_place-requires c =
@@ -21,5 +24,5 @@ return_place-requires c =
 pub returns : goal.returns
 returns c =
     let s = c.args in
-    rw c.write.ensures (untakes s.shares s.who s.second.0 s.part.now c.requires _ c.find-spot.ensures _ c.in-Ok.is _ _ _ _ _ _ c.place_units.ensures
-    c.only_if-gone.ensures c.only_if-freed.ensures c.read-totals.ensures c.untake.ensures c.return_place.ensures)
+    let o = c.then_some.ensures ∙ ap (then_some (eqb c.find-spot.result.seen.entries 1)) c.place_units-place.ensures in
+    rw c.write.ensures (untakes s.shares s.who s.second.0 s.part.now c.requires _ c.find-spot.ensures _ c.in-Ok.is _ _ _ _ o c.read-totals.ensures c.untake.ensures c.return_place.ensures)

@@ -25,8 +25,6 @@ shape_of-run c =
 
 pub returns : goal.returns
 returns c =
-    let floor_word = c.floor_word-floor in
-    let raise-to-dumped = c.raise_to_dumped in
     let restore_class = c.restore_class-feeders in
     let restore-class2 = c.restore_class-peers in
     let restore-class3 = c.restore_class-own in
@@ -35,5 +33,5 @@ returns c =
     let z = restore_class.ensures in (
       x.0,
       dump_acts c.args.on.now.s c.args.on.now.r (dump_at (words_of c.args.bytes.now)) c.args.run.now _ _ _ _ _ _ _
-          (rw floor_word.ensures at raise-to-dumped.ensures.1) z.1.1 (rw z.1.0 at y.1.1) (rw (y.1.0, z.1.0) at x.1.1),
+          (rw c.told_floor.ensures at c.raise_floor.ensures.1) z.1.1 (rw z.1.0 at y.1.1) (rw (y.1.0, z.1.0) at x.1.1),
     )
