@@ -14,6 +14,7 @@ use borrow.Rule.Slice.PartMut.{mid_of, put_mid}
 use Rattle.model.specs.declared.Class.{Class}
 use Rattle.model.specs.declared.Deliverer.{Deliverer}
 use Rattle.model.specs.declared.Draw.{Draw}
+use Rattle.model.specs.declared.Draw.TheVariants.{Granted}
 use Rattle.model.specs.declared.Shares.{Shares}
 use Rattle.model.specs.declared.Limits.{Limits}
 use Rattle.runs.specs.Chunks.{flat}
@@ -44,6 +45,10 @@ use Rattle.book.proofs.ClassWords.{nobody, only, reads_one, turns_one, flat_cons
 use Rattle.book.proofs.ClassLists.{index_le, entries_none, entries_at, enter_at, enter_none}
 use Rattle.book.proofs.Spots.{at_index, at_entries, at_listed, at_unlisted, has_one, here_fine, here_seen, here_pairs, listed_here, before_here, wide}
 use Rattle.book.proofs.Finding.{place_if, holders_sum, units_sum, entries_le, nowhere, in_use, index_is, word_of}
+
+-- a draw that is not granted, as the rules say it
+pub not_granted : (d : Draw) → (d ≡ Granted → ⊥) → granted d ≡ false
+not_granted d n = by_test (granted d) (λ t. absurd (n (granted_is d t))) (λ f. f)
 
 -- ---- contracts on the places alone
 -- a part put back behind four words leaves these, so a part of the places leaves the totals

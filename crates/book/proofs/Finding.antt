@@ -21,7 +21,6 @@ use borrow.Author.Tests.{leb-true, ltb-true, ltb-false}
 use borrow.Rule.Slice.PartMut.{mid_of}
 use Rattle.model.specs.declared.Class.{Class}
 use Rattle.model.specs.declared.Deliverer.{Deliverer}
-use Rattle.model.specs.declared.Deliverer.TheVariants.{Feeder, Peer, Relay, Restored}
 use Rattle.model.specs.declared.Draw.{Draw}
 use Rattle.model.specs.declared.Shares.{Shares}
 use Rattle.model.specs.declared.Limits.{Limits}
@@ -41,6 +40,7 @@ use Rattle.model.specs.BookWords.{most_entries, pair_words, encode_place, PlaceO
 use Rattle.model.proofs.Bounds.{shares_bounds}
 use Rattle.model.proofs.Places.{PlacesOk}
 use Rattle.model.proofs.BookWords.{read_flat, length_pairs, class_exact, same_class_is}
+use Rattle.numbers.proofs.PlaceUnits.{units_small}
 use Rattle.book.specs.declared.Spot.{Spot}
 use Rattle.book.specs.declared.place.Seen.{Seen}
 use Rattle.pairs.specs.Pairs.{before}
@@ -54,13 +54,6 @@ use Rattle.book.proofs.ClassWords.{nobody, reads_one, place_long, flat_long, ps,
 use Rattle.book.proofs.ClassLists.{index_le, names_same, entries_at, pairs_at, entries_none, pairs_none}
 
 -- ---- sums that are small
-pub units_small : (b : Shares) (who : Deliverer) → b.feeder ≤ 4_096 → b.peer ≤ 4_096 → place_units b who ≤ 4_096
-unfolding place_units
-units_small b (Feeder id) f p = f
-units_small b (Peer id) f p = p
-units_small b Relay f p = omega arith
-units_small b (Restored c) f p = p
-
 pub units_most : (b : Shares) (xs : List Place) → b.feeder ≤ 4_096 → b.peer ≤ 4_096 → units b xs ≤ entries_in xs + length xs * 4_096
 unfolding units entries_in
 units_most b [] f p = omega arith
@@ -305,19 +298,19 @@ ok_found true k = refl
 ok_found false k = refl
 
 module _ (b : Shares) (l : Limits) (closed : Bool) (who : Deliverer) (ws : List ℕ) (spot : Spot) (f : Found b who ws spot) where
-  pub draw_says : (place : ℕ) (opened : Option ℕ) (t₀ t : Totals) (hit : Bool) (room r : Draw) → place ≡ place_units b who
+  pub draw_says : (place : ℕ) (opened : Option ℕ) (t₀ t : Totals) (room r : Draw) → place ≡ place_units b who
       → opened ≡ place_if (eqb spot.seen.entries 0) b who → t₀ ≡ totals_in ws → t ≡ taken t₀ opened
-      → hit ≡ is_ok spot.seen.pair → room ≡ room_by spot.seen.entries t₀.holders b.places hit spot.seen.pairs b.pairs
+      → room ≡ room_by spot.seen.entries t₀.holders b.places (is_ok spot.seen.pair) spot.seen.pairs b.pairs
       → r ≡ decided l closed who spot.seen.entries (spot.seen.entries + 1 + place) t.holders t.units room
       → ClassReads b (class_of who) (λ h. draw_test b l closed who spot.second h.places) ws r
-  draw_says place opened t₀ t hit room r hp ho h₀ ht hh hr e =
+  draw_says place opened t₀ t room r hp ho h₀ ht hr e =
       let w = f.class in
       let xs = w.is.value.places in
       let n : get_or ws 1 0 ≡ length xs = holders_are b (class_of who) ws w in
       let u : get_or ws 2 0 ≡ units b xs = ap (λ (z : List ℕ). get_or z 2 0) w.is.words in
       let h : spot.seen.entries ≡ entries_of who xs = ap (λ (z : Spot). z.seen.entries) f.at in
       let k : spot.seen.pairs ≡ length (pairs_of who xs) = ap (λ (z : Spot). z.seen.pairs) f.at in
-      let m : hit ≡ listed spot.second (pairs_of who xs) = hh ∙ ap (λ (z : Spot). is_ok z.seen.pair) f.at ∙ ok_found _ _ in
+      let m : is_ok spot.seen.pair ≡ listed spot.second (pairs_of who xs) = ap (λ (z : Spot). is_ok z.seen.pair) f.at ∙ ok_found _ _ in
       reads_one b (class_of who) ws w.is
       (e ∙ sym (rw (hr, ht, h₀, ho, hp) (rw (← m, ← k, ← h, ← n, ← u) at (draw_is b l closed who spot.second xs))))
 

@@ -11,6 +11,7 @@ use Rattle.runs.specs.Chunks.{flat}
 use Rattle.runs.specs.Turns.{Turns}
 use Rattle.runs.proofs.Firsts.{firsts_are}
 use Rattle.model.specs.declared.Deliverer.{Deliverer}
+use Rattle.model.specs.declared.DelivererCode.{DelivererCode}
 use Rattle.model.specs.Widths.{place_head, place_width}
 use Rattle.model.specs.Class.{kind_of}
 use Rattle.model.specs.Book.{Pair, Place, total, entries, with_pairs, later_pairs}
@@ -18,7 +19,7 @@ use Rattle.model.specs.BookWords.{pair_words, read_pairs, encode_place, number_w
 use Rattle.model.proofs.BookWords.{read_flat, length_read}
 use Rattle.pairs.specs.declared.Passed.{Passed}
 use Rattle.pairs.specs.Pairs.{Cells, cells_words, before, passed_in, count_at, raise_at, lower_at, insert_at, remove_at, raised, lowered, inserted, removed, Holds, Takes, Loses}
-use Rattle.book.specs.PlaceRules.{pairs_in, Wide, Has, Single, Fits, Sums, raised_place, lowered_place, shorter_place, longer_place, later_place, left_of, headed, opened_words}
+use Rattle.book.specs.PlaceRules.{pairs_in, Wide, Has, Single, Fits, Summed, raised_place, lowered_place, shorter_place, longer_place, later_place, left_of, headed, opened_words}
 use Rattle.pairs.proofs.PairWords.{total_part, count_here}
 use Rattle.pairs.proofs.PairLists.{before_le, later_drop, length_raise, length_lower_at, total_raise, total_lower_at, length_insert, total_insert, length_remove, total_remove}
 
@@ -53,11 +54,11 @@ pairs_kept (a ∷ b ∷ e ∷ []) ys m h = absurd (omega arith)
 pairs_kept (a ∷ b ∷ e ∷ n ∷ ws) ys m h = refl
 
 -- ---- a new place: its head, and then its first pair
-pub new_head : (who : Deliverer) (k i : ℕ) (ws : List ℕ) → place_width 1 ≤ length ws → k ≡ kind_of who → i ≡ number_word who 0
-    → set (set (set (set ws 0 k) 1 i) 2 1) 3 1 ≡ headed who (drop place_head ws)
-new_head who k i ws h hk hi =
+pub new_head : (who : Deliverer) (d : DelivererCode) (ws : List ℕ) → place_width 1 ≤ length ws → d ≡ record { kind = kind_of who; number = number_word who 0 }
+    → set (set (set (set ws 0 d.kind) 1 d.number) 2 1) 3 1 ≡ headed who (drop place_head ws)
+new_head who d ws h is =
     let e = firsts_are place_head 0 ws (omega arith) in
-    ap (λ (z : List ℕ). set (set (set (set z 0 k) 1 i) 2 1) 3 1) e ∙ rw (hk, hi)
+    ap (λ (z : List ℕ). set (set (set (set z 0 d.kind) 1 d.number) 2 1) 3 1) e ∙ rw is
 
 pub opens : (who : Deliverer) (s : ℕ) (ws zs ys : List ℕ) → place_width 1 ≤ length ws → zs ≡ headed who (drop place_head ws)
     → Turns cells_words (Takes 0 0) (inserted 0 s) (λ x. tt {0}) (cells_in zs) ys (tt {0})
@@ -187,7 +188,7 @@ module _ (ws ys : List ℕ) (k : ℕ) where
 -- ---- an expiry: m pairs with `gone` entries go
 module _ (ws ys : List ℕ) (t m gone : ℕ) (hm : m ≡ before t (pairs_in ws)) (hg : gone ≡ total (take m (pairs_in ws))) where
   pub place_expires : Turns cells_words (Loses (get_or ws 3 0) 0 m) (removed 0 m) (λ x. tt {0}) (cells_in ws) ys (tt {0})
-      → Turns encode_place Sums (later_place t) (left_of t) ws
+      → Turns encode_place Summed (later_place t) (left_of t) ws
       (set (set (with_cells ws ys) 2 (get_or ws 2 0 - gone)) 3 (get_or ws 3 0 - m)) (record { pairs = get_or ws 3 0 - m; gone = gone })
   place_expires c = record {
     does = λ p ok is.

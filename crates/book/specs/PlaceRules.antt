@@ -47,7 +47,7 @@ pub record Fits (k : ℕ) (p : Place) : Type 0 where
   pub room : 2 ≤ length p.past
 
 -- pairs that are sound and whose sum is small
-pub record Sums (p : Place) : Type 0 where
+pub record Summed (p : Place) : Type 0 where
   pub rise : pairs_sound 0 p.pairs ≡ true
   pub small : entries p ≤ most_entries
 

@@ -1,6 +1,7 @@
 -- A class's totals as numbers: what they are of a class, how a draw, a return and an expiry alter them, and what each of these asks.
 use Rattle.std.specs.Prelude.{ℕ, ◌+◌, ◌-◌, ◌≤◌, Option, Some, None, List, length, get_or}
 use Rattle.model.specs.declared.Shares.{Shares}
+use Rattle.numbers.specs.declared.units.Sums.{Sums}
 use Rattle.model.specs.Book.{Held, entries_in, units}
 use Rattle.book.specs.declared.totals.Totals.{Totals}
 
@@ -25,9 +26,9 @@ taken t opened = record { entries = t.entries + 1; holders = t.holders + places_
 abbrev pub untaken : Totals → Option ℕ → Totals
 untaken t closed = record { entries = t.entries - 1; holders = t.holders - places_in closed; units = t.units - 1 - units_in closed; expired = t.expired }
 
-abbrev pub expired_to : Totals → ℕ → ℕ → ℕ → ℕ → Totals
-expired_to t entries holders units through =
-    record { entries = t.entries - entries; holders = t.holders - holders; units = t.units - units; expired = through }
+abbrev pub expired_to : Totals → Sums → ℕ → Totals
+expired_to t gone through =
+    record { entries = t.entries - gone.entries; holders = t.holders - gone.holders; units = t.units - gone.units; expired = through }
 
 -- so that no sum is too large and nothing is taken off that is not there
 abbrev pub CanTake : Totals → Option ℕ → Type 0
@@ -36,5 +37,5 @@ CanTake t opened = (t.entries ≤ 4_000_000) × (t.holders ≤ 64) × (t.units �
 abbrev pub CanUntake : Totals → Option ℕ → Type 0
 CanUntake t closed = (1 ≤ t.entries) × (places_in closed ≤ t.holders) × (1 + units_in closed ≤ t.units)
 
-abbrev pub CanExpire : Totals → ℕ → ℕ → ℕ → Type 0
-CanExpire t entries holders units = (entries ≤ t.entries) × (holders ≤ t.holders) × (units ≤ t.units)
+abbrev pub CanExpire : Totals → Sums → Type 0
+CanExpire t gone = (gone.entries ≤ t.entries) × (gone.holders ≤ t.holders) × (gone.units ≤ t.units)

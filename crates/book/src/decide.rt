@@ -1,11 +1,13 @@
 // The rules of a draw on numbers.
-ghost use Rattle.std.specs.Prelude.{◌≡◌, ◌≤◌};
+ghost use Rattle.std.specs.Prelude.{◌≡◌, ◌≤◌, is_ok};
 ghost use Rattle.model.specs.Class.{class_of};
-ghost use Rattle.model.specs.Book.{place_units, together, below_share, fair, granted};
+ghost use Rattle.model.specs.Book.{place_units, together, below_share, fair};
 ghost use Rattle.book.specs.Rules.{room_by, decided};
 
+use crate::front::Terms;
+use crate::place::Seen;
+use crate::totals::Totals;
 use model::{Class, Deliverer, Draw, Limits, Shares};
-use numbers::codes;
 
 // The units that a deliverer's place costs.
 #[tactic(auto, unfolding(model::specs::Book::place_units))]
@@ -54,58 +56,43 @@ fn is_fair(who: Deliverer) -> bool
 
 // Is a place free, and a pair? The answer is the model's `Draw`, whose rules name it, and no Result beside it.
 #[tactic(auto, unfolding(crate::specs::Rules::room_by))]
-pub fn room(held: u64, holders: u64, places: u64, listed: bool, used: u64, pairs: u64) -> Draw
-    ensures { result ≡ room_by held holders places listed used pairs }
+pub fn room(shares: Shares, seen: Seen, holders: u64) -> Draw
+    ensures { result ≡ room_by seen.entries holders shares.places (is_ok seen.pair) seen.pairs shares.pairs }
 {
-    if held == 0 && places <= holders {
+    if seen.entries == 0 && shares.places <= holders {
         Draw::Places
-    } else if !listed && pairs <= used {
+    } else if seen.pair.is_err() && shares.pairs <= seen.pairs {
         Draw::Pairs
     } else {
         Draw::Granted
     }
 }
 
-// The draw's rules in their order. `own`, `holders` and `units` are counted with the draw.
+// The draw's rules in their order, for a deliverer that holds `held` entries. `own`, its units, and `after`, the class's totals, are
+// counted with the draw.
 #[tactic(auto, unfolding(crate::specs::Rules::decided))]
-pub fn judge(
-    limits: Limits,
-    closed: bool,
-    who: Deliverer,
-    held: u64,
-    own: u64,
-    holders: u64,
-    units: u64,
-    room: Draw,
-) -> Draw
-    requires { (1 ≤ holders) × (together limits (class_of who) ≤ 1_000_000) }
-    ensures { result ≡ decided limits closed who held own holders units room }
+pub fn judge(terms: Terms, who: Deliverer, held: u64, own: u64, after: Totals, room: Draw) -> Draw
+    requires { (1 ≤ after.holders) × (together terms.limits (class_of who) ≤ 1_000_000) }
+    ensures { result ≡ decided terms.limits terms.closed who held own after.holders after.units room }
 {
-    if closed {
+    if terms.closed {
         return Draw::Closed;
     }
-    if !below_share(limits, who, held) {
+    if !below_share(terms.limits, who, held) {
         return Draw::OwnShare;
     }
-    let t = class_limit(limits, codes::class_of(who));
-    if units <= t {
+    let t = class_limit(terms.limits, Class::from(who));
+    if after.units <= t {
         return room;
     }
     if !is_fair(who) {
         return Draw::ClassLimit;
     }
-    if t / holders < own {
+    if t / after.holders < own {
         return Draw::EqualPart;
     }
-    if 2 * t < units {
+    if 2 * t < after.units {
         return Draw::TwiceLimit;
     }
     room
-}
-
-// Whether a draw was granted. No derived `==`: the contract is the model's rule, and the crates above cite it.
-pub fn is_granted(d: Draw) -> bool
-    ensures { result ≡ granted d }
-{
-    matches!(d, Draw::Granted)
 }

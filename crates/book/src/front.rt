@@ -4,7 +4,7 @@ ghost use Rattle.std.specs.Prelude.{◌≡◌, ◌≤◌, length};
 ghost use Rattle.runs.specs.Turns.{Turns, Reads};
 ghost use Rattle.model.specs.declared.Settings.{Settings};
 ghost use Rattle.model.specs.Words.{encode_front, read_front, FrontOk};
-ghost use Rattle.book.specs.FrontRules.{limited, shut, limits_stored, closed_stored};
+ghost use Rattle.book.specs.FrontRules.{limited, shut, limits_stored, closed_stored, terms_of};
 
 use model::Limits;
 use numbers::{bounds, layout};
@@ -31,21 +31,25 @@ pub fn close(front: &mut [u64])
     front[layout::CLOSED] = 1;
 }
 
-// The limits that are kept.
-#[tactic(auto, using(numbers::proofs::Readers::limits_first))]
-pub fn kept_limits(front: &[u64]) -> Limits
-    requires { 11 ≤ length front.now }
-    ensures value { result ≡ (read_front front.now).limits }
-    ensures reads { (s : Settings) → Reads (encode_front s) FrontOk (λ f. f.limits) front.now result }
-{
-    bounds::limits_of(&front[layout::FEEDER_LIMIT..layout::CLOSED])
+// What the front says of draws: the limits that are kept, and whether the book is closed. A closed book keeps its limits, so the two
+// are no Option.
+#[derive(Clone, Copy)]
+pub struct Terms {
+    pub limits: Limits,
+    pub closed: bool,
 }
 
-// Whether the book is closed.
-pub fn is_closed(front: &[u64]) -> bool
-    requires { 11 ≤ length front.now }
-    ensures value { result ≡ (read_front front.now).closed }
-    ensures reads { (s : Settings) → Reads (encode_front s) FrontOk (λ f. f.closed) front.now result }
-{
-    front[layout::CLOSED] == 1
+impl Terms {
+    // Reads what the front says of draws.
+    #[tactic(auto, using(numbers::proofs::Readers::limits_first))]
+    pub fn read(front: &[u64]) -> Terms
+        requires { 11 ≤ length front.now }
+        ensures value { result ≡ terms_of (read_front front.now) }
+        ensures reads { (s : Settings) → Reads (encode_front s) FrontOk terms_of front.now result }
+    {
+        Terms {
+            limits: bounds::limits_of(&front[layout::FEEDER_LIMIT..layout::CLOSED]),
+            closed: front[layout::CLOSED] == 1,
+        }
+    }
 }

@@ -1,8 +1,9 @@
 // The share book of one class, in its own part of the lent words: entries, holders, units and `expired`, then P places, each its
-// head and E pairs, in order of arrival. A draw is a search, a reading test that says why not, and a step that enters.
+// head and E pairs, in order of arrival. A draw is a search, a reading test that says why not, and a step that enters. `ClassIs` is a
+// fact in contracts and no type: draws and returns change the words, so a type would have to say it before and after each of them.
 #![tactic(auto)]
 
-pub mod decide;
+mod decide;
 pub mod front;
 pub mod place;
 pub mod totals;
@@ -17,7 +18,8 @@ ghost use Rattle.model.specs.Book.{draw_test, enter, give_back, entries_of};
 ghost use Rattle.book.specs.Sums.{totals_in, totals_of};
 ghost use Rattle.book.specs.ClassRules.{ClassIs, ClassReads, ClassTurns, place_of, spot_of, Found, Roomy, Listed, BodyTurns, entered, drawn_class, returned};
 
-use model::{Class, Deliverer, Draw, Limits, Second, Shares};
+use front::Terms;
+use model::{Class, Deliverer, Draw, Second, Shares};
 use numbers::{layout, starts};
 use place::Seen;
 use runs::moves;
@@ -56,50 +58,26 @@ pub fn find(part: &[u64], shares: Shares, who: Deliverer, second: Second) -> Spo
             seen: place::NOTHING,
         };
     };
-    let start = starts::place_start(shares, at);
-    let end = start + starts::place_width(shares);
+    let place = &part[starts::place_extent(shares, at)];
     Spot {
         second: second.0,
         place: at,
-        seen: place::look(&part[start..end], second.0),
+        seen: place::look(place, second.0),
     }
 }
 
 // May the deliverer draw? The first rule that stands against it, or Granted.
-pub fn draw(
-    part: &[u64],
-    shares: Shares,
-    limits: Limits,
-    closed: bool,
-    who: Deliverer,
-    spot: Spot,
-) -> Draw
-    requires { Found shares who part.now spot × (limits_fit limits ≡ true) }
-    ensures { ClassReads shares (class_of who) (λ h. draw_test shares limits closed who spot.second h.places) part.now result }
+pub fn draw(part: &[u64], shares: Shares, terms: Terms, who: Deliverer, spot: Spot) -> Draw
+    requires { Found shares who part.now spot × (limits_fit terms.limits ≡ true) }
+    ensures { ClassReads shares (class_of who) (λ h. draw_test shares terms.limits terms.closed who spot.second h.places) part.now result }
 {
     let held = spot.seen.entries;
     let place = decide::place_units(shares, who);
     let mut totals = Totals::read(part);
-    let room = decide::room(
-        held,
-        totals.holders,
-        shares.places,
-        spot.seen.pair.is_ok(),
-        spot.seen.pairs,
-        shares.pairs,
-    );
+    let room = decide::room(shares, spot.seen, totals.holders);
     // From here on they are what the draw would leave.
     totals.take((held == 0).then_some(place));
-    decide::judge(
-        limits,
-        closed,
-        who,
-        held,
-        held + 1 + place,
-        totals.holders,
-        totals.units,
-        room,
-    )
+    decide::judge(terms, who, held, held + 1 + place, totals, room)
 }
 
 // A draw's entry in the words of the places: in the deliverer's place, or in a new one after the others.
@@ -107,9 +85,7 @@ fn enter_place(part: &mut [u64], shares: Shares, who: Deliverer, spot: Spot)
     requires { Roomy shares who part.old spot }
     ensures { BodyTurns shares (class_of who) (enter shares who spot.second) part.old part.new }
 {
-    let start = starts::place_start(shares, spot.place);
-    let end = start + starts::place_width(shares);
-    let place = &mut part[start..end];
+    let place = &mut part[starts::place_extent(shares, spot.place)];
     if spot.seen.entries == 0 {
         place::open(place, who, spot.second);
         return;
@@ -133,20 +109,14 @@ pub fn enter(part: &mut [u64], shares: Shares, who: Deliverer, spot: Spot)
 }
 
 // A draw: looked up once, tested, and entered where it is granted.
-pub fn take(
-    part: &mut [u64],
-    shares: Shares,
-    limits: Limits,
-    closed: bool,
-    who: Deliverer,
-    second: Second,
-) -> Draw
-    requires { ClassIs shares (class_of who) part.old × (limits_fit limits ≡ true) }
-    ensures { ClassTurns shares (class_of who) (drawn_class shares limits closed who second.0) (λ h. draw_test shares limits closed who second.0 h.places) part.old part.new result }
+pub fn take(part: &mut [u64], shares: Shares, terms: Terms, who: Deliverer, second: Second) -> Draw
+    requires { ClassIs shares (class_of who) part.old × (limits_fit terms.limits ≡ true) }
+    ensures { ClassTurns shares (class_of who) (drawn_class shares terms.limits terms.closed who second.0)
+        (λ h. draw_test shares terms.limits terms.closed who second.0 h.places) part.old part.new result }
 {
     let spot = find(part, shares, who, second);
-    let answer = draw(part, shares, limits, closed, who, spot);
-    if decide::is_granted(answer) {
+    let answer = draw(part, shares, terms, who, spot);
+    if let Draw::Granted = answer {
         enter(part, shares, who, spot);
     }
     answer
@@ -163,7 +133,7 @@ pub fn held_by(part: &[u64], shares: Shares, who: Deliverer) -> u64
     }
 }
 
-// The totals of a class: entries, holders, units and `expired`.
+// The totals of a class: entries, holders, units and `expired`. It is `Totals::read` with the rules' reading beside it.
 pub fn held_of(part: &[u64]) -> Totals
     requires { class_head ≤ length part.now }
     ensures value { result ≡ totals_in part.now }
@@ -177,19 +147,18 @@ fn return_place(part: &mut [u64], shares: Shares, who: Deliverer, spot: Spot, k:
     requires { Listed shares who part.old spot k }
     ensures { BodyTurns shares (class_of who) (give_back who spot.second) part.old part.new }
 {
-    let width = starts::place_width(shares);
-    let start = starts::place_start(shares, spot.place);
-    let end = start + width;
+    let here = starts::place_extent(shares, spot.place);
     if spot.seen.entries == 1 {
         let used = starts::place_start(shares, part[layout::CLASS_HOLDERS] as usize);
-        moves::close_up(&mut part[start..used], width);
+        moves::close_up(&mut part[here.start..used], starts::place_width(shares));
         return;
     }
-    if place::count(&part[start..end], k) == 1 {
-        place::remove(&mut part[start..end], k);
-        return;
+    let place = &mut part[here];
+    if place::count(place, k) == 1 {
+        place::remove(place, k);
+    } else {
+        place::lower(place, k);
     }
-    place::lower(&mut part[start..end], k);
 }
 
 // Gives a draw back: its pair is lowered, a pair at 0 goes, and so does an empty place.

@@ -1,4 +1,5 @@
-// One place: the kind and number of its deliverer, its entries, how many pairs it has, then the cells of E pairs.
+// One place: the kind and number of its deliverer, its entries, how many pairs it has, then the cells of E pairs. `Wide` is a fact in
+// contracts and no type: most functions here change the words, and a type for the readers alone would be a second form beside theirs.
 ghost use Rattle.std.specs.Prelude.{◌+◌, ◌≤◌, ◌<◌, ◌≡◌, length, get_or};
 ghost use Rattle.runs.specs.Turns.{Is, Turns};
 ghost use Rattle.model.specs.Widths.{place_head, place_width};
@@ -7,7 +8,7 @@ ghost use Rattle.model.specs.Book.{total};
 ghost use Rattle.model.specs.BookWords.{number_word, encode_place, most_entries};
 ghost use Rattle.pairs.specs.Pairs.{count_at};
 ghost use Rattle.book.specs.Rules.{names_by};
-ghost use Rattle.book.specs.PlaceRules.{Wide, pairs_in, seen_in, Has, Single, Fits, Sums, raised_place, lowered_place, shorter_place, longer_place, later_place, left_of, opened_words};
+ghost use Rattle.book.specs.PlaceRules.{Wide, pairs_in, seen_in, Has, Single, Fits, Summed, raised_place, lowered_place, shorter_place, longer_place, later_place, left_of, opened_words};
 
 use model::{Deliverer, DelivererCode};
 use numbers::layout;
@@ -37,27 +38,18 @@ pub fn names(who: Deliverer, code: DelivererCode) -> bool
     }
 }
 
-// The kind word of a deliverer.
+// The code of a deliverer in a new place: the number is 0 where the deliverer has none. A host's code of a restored one has its class there.
 #[tactic(auto, unfolding(model::specs::Class::kind_of))]
-fn kind_word(who: Deliverer) -> u64
-    ensures { result ≡ kind_of who }
+fn new_code(who: Deliverer) -> DelivererCode
+    ensures { result ≡ record { kind = kind_of who; number = number_word who 0 } }
 {
-    match who {
-        Deliverer::Feeder(_) => DelivererCode::FEEDER,
-        Deliverer::Peer(_) => DelivererCode::PEER,
-        Deliverer::Relay => DelivererCode::RELAY,
-        Deliverer::Restored(_) => DelivererCode::RESTORED,
-    }
-}
-
-// The number word of a deliverer that comes: 0 where it has no number.
-fn id_word(who: Deliverer) -> u64
-    ensures { result ≡ number_word who 0 }
-{
-    match who {
-        Deliverer::Feeder(id) | Deliverer::Peer(id) => id,
-        Deliverer::Relay | Deliverer::Restored(_) => 0,
-    }
+    let (kind, number) = match who {
+        Deliverer::Feeder(id) => (DelivererCode::FEEDER, id),
+        Deliverer::Peer(id) => (DelivererCode::PEER, id),
+        Deliverer::Relay => (DelivererCode::RELAY, 0),
+        Deliverer::Restored(_) => (DelivererCode::RESTORED, 0),
+    };
+    DelivererCode { kind, number }
 }
 
 // What a place says of a second: its entries and pairs, and the pair of the second, `Ok` of its index where it is listed, or `Err`
@@ -97,8 +89,9 @@ pub fn open(place: &mut [u64], who: Deliverer, second: u64)
     requires { place_width 1 ≤ length place.old }
     ensures { place.new ≡ opened_words who second place.old }
 {
-    place[layout::PLACE_KIND] = kind_word(who);
-    place[layout::PLACE_NUMBER] = id_word(who);
+    let code = new_code(who);
+    place[layout::PLACE_KIND] = code.kind;
+    place[layout::PLACE_NUMBER] = code.number;
     place[layout::PLACE_ENTRIES] = 1;
     place[layout::PLACE_PAIRS] = 1;
     pairs::insert(&mut place[layout::PLACE_HEAD..], 0, 0, second);
@@ -155,7 +148,8 @@ pub fn remove(place: &mut [u64], k: usize)
     place[layout::PLACE_PAIRS] -= 1;
 }
 
-// What an expiry leaves of a place, and the entries that went. No pairs is a count as any other, and no refusal.
+// What an expiry leaves of a place, and the entries that went, which is a promise of `expire`. No pairs is a count as any other, and no
+// refusal.
 #[derive(Clone, Copy)]
 pub struct Left {
     pub pairs: usize,
@@ -165,8 +159,8 @@ pub struct Left {
 // The pairs before a second go: one walk over the pairs that go, and the others move down.
 #[tactic(auto, using(crate::proofs::PlaceTurns::place_expires, crate::proofs::PlaceTurns::entries_kept, crate::proofs::PlaceTurns::tail_long, crate::proofs::PlaceTurns::went))]
 pub fn expire(place: &mut [u64], t: u64) -> Left
-    requires { Wide place.old × (total (pairs_in place.old) ≡ get_or place.old 2 0) × Is encode_place Sums place.old }
-    ensures { Turns encode_place Sums (later_place t) (left_of t) place.old place.new result }
+    requires { Wide place.old × (total (pairs_in place.old) ≡ get_or place.old 2 0) × Is encode_place Summed place.old }
+    ensures { Turns encode_place Summed (later_place t) (left_of t) place.old place.new result }
 {
     let n = place[layout::PLACE_PAIRS] as usize;
     let passed = pairs::earlier(&place[layout::PLACE_HEAD..], n, t);

@@ -1,11 +1,13 @@
 // A class's totals: the first words of the class's part. A draw, a return and an expiry alter them by `take`, `untake` and `expire`,
-// to which they are lent.
+// to which they are lent: a rule of the project names this form.
 ghost use Rattle.std.specs.Prelude.{◌≡◌, ◌≤◌, ◌∷◌, length, drop};
 ghost use Rattle.book.specs.Sums.{totals_in, taken, untaken, expired_to, CanTake, CanUntake, CanExpire};
 ghost use Rattle.model.specs.Widths.{class_head};
 
 use numbers::layout;
+use numbers::units::Sums;
 
+// The first three are the sums of the places; as fields here, since callers read them one by one.
 #[derive(Clone, Copy)]
 pub struct Totals {
     pub entries: u64,
@@ -65,14 +67,14 @@ impl Totals {
         }
     }
 
-    // What has expired up to a second is taken off: so many entries, places and units.
-    pub fn expire(&mut self, entries: u64, holders: u64, units: u64, through: u64)
-        requires { CanExpire self.old entries holders units }
-        ensures { self.new ≡ expired_to self.old entries holders units through }
+    // What has expired up to a second is taken off.
+    pub fn expire(&mut self, gone: Sums, through: u64)
+        requires { CanExpire self.old gone }
+        ensures { self.new ≡ expired_to self.old gone through }
     {
-        self.entries -= entries;
-        self.holders -= holders;
-        self.units -= units;
+        self.entries -= gone.entries;
+        self.holders -= gone.holders;
+        self.units -= gone.units;
         self.expired = through;
     }
 }

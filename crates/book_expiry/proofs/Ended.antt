@@ -27,30 +27,31 @@ use Rattle.runs.proofs.Shifts.{mid_of_append, put_of}
 use Rattle.book.proofs.ClassWords.{turns_one, flat_long, up_flat, holders_are}
 use Rattle.book.proofs.Finding.{in_part}
 use Rattle.book.proofs.Entering.{class_words}
-use Rattle.book_expiry.specs.declared.Kept.{Kept}
+use Rattle.numbers.specs.declared.units.Sums.{Sums}
+use Rattle.numbers.specs.Sums.{no_sums}
 use Rattle.book_expiry.specs.Walks.{between, Walk, Standing, Steps, lead_of, rest_of, Walking, freed_to}
 use Rattle.book_expiry.proofs.Lists.{kept_ok, first_units, first_entries, first_length}
 
 -- ---- nothing has been seen yet
 module _ (b : Shares) (c : Class) (t : ℕ) (ws : List ℕ) where
   none_seen : (h : Held) → (class_form b c).Ok h → ws ≡ (class_form b c).enc h
-      → Walk b t 0 (lead_of b h) h.places (rest_of b h) (record { places = 0; entries = 0; units = 0 }) ws
+      → Walk b t 0 (lead_of b h) h.places (rest_of b h) no_sums ws
   unfolding later_places entries_in units flat between
   none_seen h ok is = record {
     gap = [];
     left = refl;
     words = is ∙ ap (λ (l : List ℕ). lead_of b h ++ l) (up_flat c b.pairs b.places h.places ok.1.0.0);
     size = rw zero-mul;
-    places = refl;
+    holders = refl;
     entries = refl;
     units = refl;
   }
 
-  pub starts : Walking b c t ws 0 (record { places = 0; entries = 0; units = 0 }) ws
+  pub starts : Walking b c t ws 0 no_sums ws
   starts = record { does = none_seen }
 
 -- ---- one place more
-module _ (b : Shares) (c : Class) (t : ℕ) (ws : List ℕ) (cl : ClassIs b c ws) (i : ℕ) (k : Kept) (now : List ℕ) (x : Walking b c t ws i k now) where
+module _ (b : Shares) (c : Class) (t : ℕ) (ws : List ℕ) (cl : ClassIs b c ws) (i : ℕ) (k : Sums) (now : List ℕ) (x : Walking b c t ws i k now) where
   abbrev ps : List Place
   ps = cl.is.value.places
 
@@ -72,8 +73,8 @@ module _ (b : Shares) (c : Class) (t : ℕ) (ws : List ℕ) (cl : ClassIs b c ws
       let m = cl.holders in
       let o = cl.places in
       let g = walk.size in
-      let y = ap (λ (z : ℕ). z * place_width b.pairs) walk.places in
-      let z = walk.places in
+      let y = ap (λ (z : ℕ). z * place_width b.pairs) walk.holders in
+      let z = walk.holders in
       let wi = in_part b c ws cl i h in
       let fl = first_length b c t i ps each in
       let fe = first_entries b c t i ps each in
@@ -98,12 +99,12 @@ module _ (b : Shares) (c : Class) (t : ℕ) (ws : List ℕ) (cl : ClassIs b c ws
         peer = cl.peer;
         within = omega arith;
         behind = omega arith;
-        places = omega arith;
+        holders = omega arith;
         entries = omega arith;
         units = omega arith;
       }
 
-  pub on : i < get_or ws 1 0 → (r : Kept) (last : List ℕ) → Steps b c t i k now last r → Walking b c t ws (i + 1) r last
+  pub on : i < get_or ws 1 0 → (r : Sums) (last : List ℕ) → Steps b c t i k now last r → Walking b c t ws (i + 1) r last
   on h r last s = record {
     does = λ v ok is.
         let n : get_or ws 1 0 ≡ length v.places = ap (λ (l : List ℕ). get_or l 1 0) is in
@@ -111,7 +112,7 @@ module _ (b : Shares) (c : Class) (t : ℕ) (ws : List ℕ) (cl : ClassIs b c ws
   }
 
 -- ---- all have been seen
-module _ (b : Shares) (c : Class) (t : ℕ) (ws : List ℕ) (cl : ClassIs b c ws) (k : Kept) (now : List ℕ) (x : Walking b c t ws (get_or ws 1 0) k now) where
+module _ (b : Shares) (c : Class) (t : ℕ) (ws : List ℕ) (cl : ClassIs b c ws) (k : Sums) (now : List ℕ) (x : Walking b c t ws (get_or ws 1 0) k now) where
   abbrev all : List Place
   all = cl.is.value.places
 
@@ -129,7 +130,7 @@ module _ (b : Shares) (c : Class) (t : ℕ) (ws : List ℕ) (cl : ClassIs b c ws
     pub gap : List ℕ
     pub words : seen ≡ (lead_of b cl.is.value ++ flat encode_place kept) ++ (gap ++ rest)
     pub size : length kept * W + length gap ≡ length all * W
-    pub places : k.places ≡ length kept
+    pub holders : k.holders ≡ length kept
     pub entries : k.entries ≡ entries_in kept
     pub units : k.units ≡ units b kept
 
@@ -147,7 +148,7 @@ module _ (b : Shares) (c : Class) (t : ℕ) (ws : List ℕ) (cl : ClassIs b c ws
         gap = whole.gap;
         words = rw (l, d) at whole.words;
         size = rw l at whole.size;
-        places = rw l at whole.places;
+        holders = rw l at whole.holders;
         entries = rw l at whole.entries;
         units = rw l at whole.units;
       }
@@ -168,16 +169,16 @@ module _ (b : Shares) (c : Class) (t : ℕ) (ws : List ℕ) (cl : ClassIs b c ws
   all_few : length all ≤ b.places
   all_few = cl.is.ok.1.0.0
 
-  front_long : length (lead_of b cl.is.value ++ flat encode_place kept) ≡ class_head + k.places * W
+  front_long : length (lead_of b cl.is.value ++ flat encode_place kept) ≡ class_head + k.holders * W
   front_long =
       let l = length-append (lead_of b cl.is.value) (flat encode_place kept) in
       let f = flat_long c b.pairs 0 kept kept_fine in
-      let m = ap (λ (n : ℕ). n * W) done.places in
+      let m = ap (λ (n : ℕ). n * W) done.holders in
       omega arith
 
-  gap_long : k.places * W + length done.gap ≡ get_or ws 1 0 * W
+  gap_long : k.holders * W + length done.gap ≡ get_or ws 1 0 * W
   gap_long =
-      let m = ap (λ (n : ℕ). n * W) done.places in
+      let m = ap (λ (n : ℕ). n * W) done.holders in
       let n = ap (λ (n : ℕ). n * W) (holders_are b c ws cl) in
       let s = done.size in
       omega arith
@@ -197,7 +198,7 @@ module _ (b : Shares) (c : Class) (t : ℕ) (ws : List ℕ) (cl : ClassIs b c ws
       omega arith
 
   -- the totals are those of all places, of which no more are kept
-  pub kept_within : (s : Totals) → s ≡ totals_in ws → (k.entries ≤ s.entries) × (k.places ≤ s.holders) × (k.units ≤ s.units)
+  pub kept_within : (s : Totals) → s ≡ totals_in ws → (k.entries ≤ s.entries) × (k.holders ≤ s.holders) × (k.units ≤ s.units)
   kept_within s e =
       let l : take (length all) all ≡ all = take_all (length all) all (omega arith) in
       let fe = rw l at (first_entries b c t (length all) all each_one) in
@@ -205,14 +206,14 @@ module _ (b : Shares) (c : Class) (t : ℕ) (ws : List ℕ) (cl : ClassIs b c ws
       let fl = kept_few in
       let d = done in
       let de = d.entries in
-      let dp = d.places in
+      let dp = d.holders in
       let du = d.units in
       let se = ap (λ (z : Totals). z.entries) e ∙ ap (λ (y : List ℕ). get_or y 0 0) cl.is.words in
       let sh = ap (λ (z : Totals). z.holders) e ∙ holders_are b c ws cl in
       let su = ap (λ (z : Totals). z.units) e ∙ ap (λ (y : List ℕ). get_or y 2 0) cl.is.words in
       (omega arith, omega arith, omega arith)
 
-  module _ (a e : ℕ) (ha : a ≡ class_head + k.places * W) (he : e ≡ class_head + get_or ws 1 0 * W) (zs : List ℕ) (is : zs ≡ replicate (length (mid_of a (e - a) now)) 0) where
+  module _ (a e : ℕ) (ha : a ≡ class_head + k.holders * W) (he : e ≡ class_head + get_or ws 1 0 * W) (zs : List ℕ) (is : zs ≡ replicate (length (mid_of a (e - a) now)) 0) where
     gap_is : length done.gap ≡ e - a
     gap_is = let g = gap_long in omega arith
 
@@ -234,13 +235,13 @@ module _ (b : Shares) (c : Class) (t : ℕ) (ws : List ℕ) (cl : ClassIs b c ws
         (replicate-append-replicate (length done.gap) ((b.places - length all) * W) 0 ∙ ap (λ (n : ℕ). replicate n 0) zeros_are)
         ∙ sym (up_flat c b.pairs b.places kept (omega arith))
 
-    pub ends : (s left : Totals) → s ≡ totals_in ws → left ≡ expired_to s (s.entries - k.entries) (s.holders - k.places) (s.units - k.units) t
+    pub ends : (s left : Totals) → s ≡ totals_in ws → left ≡ expired_to s (record { entries = s.entries - k.entries; holders = s.holders - k.holders; units = s.units - k.units }) t
         → ClassTurns b c (freed_to t) (λ h. tt {0}) ws (left.entries ∷ left.holders ∷ left.units ∷ left.expired ∷ drop class_head (put_mid a (e - a) now zs)) (tt {0})
     ends s left is_read is-left =
         let d = done in
         let w = kept_within s is_read in
         let n : s.entries - (s.entries - k.entries) ≡ entries_in kept = let f = d.entries in omega arith in
-        let m : s.holders - (s.holders - k.places) ≡ length kept = let f = d.places in omega arith in
+        let m : s.holders - (s.holders - k.holders) ≡ length kept = let f = d.holders in omega arith in
         let u : s.units - (s.units - k.units) ≡ units b kept = let f = d.units in omega arith in
         let y : left ≡ totals_of b (freed_to t cl.is.value) = is-left ∙ (λ i. record { entries = n i; holders = m i; units = u i; expired = t }) in
         turns_one b c ws cl.is (class_words b c (freed_to t cl.is.value) left (drop class_head (put_mid a (e - a) now zs)) y body) refl
@@ -250,13 +251,13 @@ module _ (b : Shares) (c : Class) (t : ℕ) (ws : List ℕ) (cl : ClassIs b c ws
   expired_is : get_or ws 3 0 ≡ cl.is.value.expired
   expired_is = ap (λ (l : List ℕ). get_or l 3 0) cl.is.words
 
-  pub noted : cap32 (t + 2) < get_or ws 3 0 → (s left : Totals) → s ≡ totals_in ws → left ≡ expired_to s 0 0 0 t
+  pub noted : cap32 (t + 2) < get_or ws 3 0 → (s left : Totals) → s ≡ totals_in ws → left ≡ expired_to s no_sums t
       → ClassTurns b c (expire_class t) (λ h. tt {0}) ws (left.entries ∷ left.holders ∷ left.units ∷ left.expired ∷ drop class_head ws) (tt {0})
   unfolding expire_class
   noted h s left is_read is-left =
       let e = lt-ltb (cap32 (t + 2)) cl.is.value.expired (let x = expired_is in omega arith) in
       let was : totals_in ws ≡ totals_of b cl.is.value = ap totals_in cl.is.words in
-      let none : expired_to s 0 0 0 t ≡ record { entries = s.entries; holders = s.holders; units = s.units; expired = t } =
+      let none : expired_to s no_sums t ≡ record { entries = s.entries; holders = s.holders; units = s.units; expired = t } =
       let n : s.entries - 0 ≡ s.entries = omega arith in
       let m : s.holders - 0 ≡ s.holders = omega arith in
       let u : s.units - 0 ≡ s.units = omega arith in

@@ -18,18 +18,19 @@ use Rattle.runs.proofs.Chunks.{flat_append}
 use Rattle.runs.proofs.Each.{each_at}
 use Rattle.model.specs.Widths.{class_head, place_head, place_width}
 use Rattle.model.specs.Book.{Pair, Place, total, entries_in, place_units, units, with_pairs, later_pairs, later_places}
-use Rattle.model.specs.BookWords.{most_entries, encode_place, PlaceOk}
+use Rattle.model.specs.BookWords.{most_entries, read_who, encode_place, PlaceOk}
 use Rattle.model.proofs.BookWords.{read_flat, named_back}
 use Rattle.model.proofs.Pairs.{length_later, total_later}
 use Rattle.model.proofs.Places.{PlacesOk}
 use Rattle.book.specs.declared.place.Left.{Left}
-use Rattle.book.specs.PlaceRules.{pairs_in, Wide, Sums, later_place, left_of}
+use Rattle.book.specs.PlaceRules.{pairs_in, Wide, Summed, later_place, left_of}
 use Rattle.runs.proofs.Shifts.{mid_of_append, put_of}
 use Rattle.book.proofs.ClassWords.{nobody, flat_cons, flat_long, place_long}
 use Rattle.book.proofs.ClassLists.{entries_append, units_append}
 use Rattle.book.proofs.Finding.{place_wide}
-use Rattle.book_expiry.specs.declared.Kept.{Kept}
-use Rattle.book_expiry.specs.Walks.{with_words, Walk, Standing, Steps}
+use Rattle.numbers.specs.declared.units.Sums.{Sums}
+use Rattle.numbers.specs.Sums.{with_place}
+use Rattle.book_expiry.specs.Walks.{Walk, Standing, Steps}
 use Rattle.book_expiry.proofs.Lists.{later_gone, later_here, between_gone, between_here, fewer_long, kept_ok}
 
 -- words moved down to the first, the last d staying as they were
@@ -37,7 +38,7 @@ moved_down : (xs : List ℕ) (d : ℕ) → copy_within xs d (length xs) 0 ≡ dr
 moved_down xs d = paste_all xs 0 (drop d xs) (length xs - d) (sym (length-drop d xs)) ∙ rw zero-add
 
 -- ---- place i in words of which the places before it have been seen
-module _ (b : Shares) (c : Class) (t i : ℕ) (lead : List ℕ) (ps : List Place) (rest : List ℕ) (k : Kept) (ws : List ℕ)
+module _ (b : Shares) (c : Class) (t i : ℕ) (lead : List ℕ) (ps : List Place) (rest : List ℕ) (k : Sums) (ws : List ℕ)
     (totals : length lead ≡ class_head) (ok : PlacesOk c b.pairs 0 ps) (below : i < length ps) (w : Walk b t i lead ps rest k ws) where
   abbrev W : ℕ
   W = place_width b.pairs
@@ -58,15 +59,15 @@ module _ (b : Shares) (c : Class) (t i : ℕ) (lead : List ℕ) (ps : List Place
   fine : PlaceOk c b.pairs p
   fine = each_at (λ (j : ℕ). PlaceOk c b.pairs) ps i nobody ok below
 
-  u_long : length u ≡ class_head + k.places * W
+  u_long : length u ≡ class_head + k.holders * W
   u_long =
       let l = length-append lead (flat encode_place kept) in
       let f = flat_long c b.pairs 0 kept (kept_ok b c t i ps ok) in
-      let m = ap (λ (n : ℕ). n * W) w.places in
+      let m = ap (λ (n : ℕ). n * W) w.holders in
       omega arith
 
-  gap_long : k.places * W + length w.gap ≡ i * W
-  gap_long = let m = ap (λ (n : ℕ). n * W) w.places in let s = w.size in omega arith
+  gap_long : k.holders * W + length w.gap ≡ i * W
+  gap_long = let m = ap (λ (n : ℕ). n * W) w.holders in let s = w.size in omega arith
 
   until_long : length (u ++ w.gap) ≡ class_head + i * W
   until_long = let l = length-append u w.gap in let a = u_long in let g = gap_long in omega arith
@@ -86,11 +87,11 @@ module _ (b : Shares) (c : Class) (t i : ℕ) (lead : List ℕ) (ps : List Place
     seen : mid_of a (e - a) ws ≡ encode_place p
     seen = rw size (ap (mid_of a W) cut ∙ mid_of_append (u ++ w.gap) (encode_place p) v a W (until_long ∙ sym ha) (place_long c b.pairs p fine))
 
-    sums : Sums p
+    sums : Summed p
     sums = record { rise = fine.pairs; small = fine.few }
 
     pub expire_asks : b.pairs ≤ 512 → Wide (mid_of a (e - a) ws) × (total (pairs_in (mid_of a (e - a) ws)) ≡ get_or (mid_of a (e - a) ws) 2 0)
-        × Is encode_place Sums (mid_of a (e - a) ws)
+        × Is encode_place Summed (mid_of a (e - a) ws)
     expire_asks h = (
       rw seen (place_wide c b.pairs p fine h),
       rw seen (ap total (read_flat p.pairs p.past)),
@@ -98,7 +99,7 @@ module _ (b : Shares) (c : Class) (t i : ℕ) (lead : List ℕ) (ps : List Place
     )
 
     -- ---- its pairs before t have gone
-    module _ (ys : List ℕ) (left : Left) (x : Turns encode_place Sums (later_place t) (left_of t) (mid_of a (e - a) ws) ys left) where
+    module _ (ys : List ℕ) (left : Left) (x : Turns encode_place Summed (later_place t) (left_of t) (mid_of a (e - a) ws) ys left) where
       abbrev qs : List Pair
       qs = later_pairs t (get_or ps i nobody).pairs
 
@@ -133,20 +134,17 @@ module _ (b : Shares) (c : Class) (t i : ℕ) (lead : List ℕ) (ps : List Place
             left = between_gone W t i ps below w.gap w.left (sym many ∙ z);
             words = rw g word;
             size = rw g (omega arith);
-            places = rw g w.places;
+            holders = rw g w.holders;
             entries = rw g w.entries;
             units = rw g w.units;
           }
 
       -- ---- some are left
-      again : mid_of a (e - a) (put_mid a (e - a) ws ys) ≡ encode_place q
-      again = ap (mid_of a (e - a)) mid_is ∙ rw size (mid_of_append (u ++ w.gap) (encode_place q) v a W (until_long ∙ sym ha) q_long)
-
-      pub with_asks : (place_head ≤ length (mid_of a (e - a) (put_mid a (e - a) ws ys))) × (get_or (mid_of a (e - a) (put_mid a (e - a) ws ys)) 2 0 ≤ most_entries)
+      pub with_asks : (place_head ≤ length ys) × (get_or ys 2 0 ≤ most_entries)
       unfolding with_pairs
-      with_asks = rw again (let n = q_long in omega arith, let f = fine.few in let l = total_later t p.pairs in omega arith)
+      with_asks = rw turned.0 (let n = q_long in omega arith, let f = fine.few in let l = total_later t p.pairs in omega arith)
 
-      module _ (j : ℕ) (hj : j ≡ class_head + k.places * W) (zs : List ℕ)
+      module _ (j : ℕ) (hj : j ≡ class_head + k.holders * W) (zs : List ℕ)
           (is : zs ≡ drop (a - j) (mid_of j (e - j) (put_mid a (e - a) ws ys))
           ++ drop (length (mid_of j (e - j) (put_mid a (e - a) ws ys)) - (a - j)) (mid_of j (e - j) (put_mid a (e - a) ws ys))) where
         abbrev m : List ℕ
@@ -208,10 +206,10 @@ module _ (b : Shares) (c : Class) (t i : ℕ) (lead : List ℕ) (ps : List Place
         unfolding units with_pairs
         more_units = let l = units_append b kept (q ∷ []) in omega arith
 
-        module _ (r : Kept) (hr : r ≡ with_words b c (mid_of a (e - a) (put_mid a (e - a) ws ys)) k) where
-          counted : r ≡ record { places = k.places + 1; entries = k.entries + total qs; units = k.units + total qs + place_units b p.who }
+        module _ (r : Sums) (hr : r ≡ with_place b (read_who c (get_or ys 0 0) (get_or ys 1 0)) (get_or ys 2 0) k) where
+          counted : r ≡ record { entries = k.entries + total qs; holders = k.holders + 1; units = k.units + total qs + place_units b p.who }
           unfolding with_pairs
-          counted = hr ∙ rw again (rw (named_back c p.who p.mark fine.class).1)
+          counted = hr ∙ rw turned.0 (rw (named_back c p.who p.mark fine.class).1)
 
           pub stays : (left.pairs ≡ 0 → ⊥) → Walk b t (suc i) lead ps rest r (put_mid j (e - j) (put_mid a (e - a) ws ys) zs)
           stays some =
@@ -221,38 +219,38 @@ module _ (b : Shares) (c : Class) (t i : ℕ) (lead : List ℕ) (ps : List Place
               let o = more_units in
               let d = stale_long in
               let h = gap_long in
-              let y = w.places in
+              let y = w.holders in
               let z = w.entries in
               let f = w.units in
               let s1 = suc-mul i W in
-              let s2 : length (kept ++ q ∷ []) * W ≡ k.places * W + W = ap (λ (x : ℕ). x * W) (l ∙ ap suc (sym y)) ∙ suc-mul k.places W in
+              let s2 : length (kept ++ q ∷ []) * W ≡ k.holders * W + W = ap (λ (x : ℕ). x * W) (l ∙ ap suc (sym y)) ∙ suc-mul k.holders W in
               rw counted (record {
                 gap = stale;
                 left = stale_is ∙ between_here W t i ps below w.gap w.left (λ z. some (many ∙ z));
                 words = rw g more_words;
                 size = rw g (omega arith);
-                places = rw g (omega arith);
+                holders = rw g (omega arith);
                 entries = rw g (omega arith);
                 units = rw g (omega arith);
               })
 
 -- ---- the same as contracts: what the calls ask, and what is left
-module _ (b : Shares) (c : Class) (t i : ℕ) (k : Kept) (ws : List ℕ) (a e : ℕ) (ha : a ≡ class_head + i * place_width b.pairs) (he : e ≡ a + place_width b.pairs) where
+module _ (b : Shares) (c : Class) (t i : ℕ) (k : Sums) (ws : List ℕ) (a e : ℕ) (ha : a ≡ class_head + i * place_width b.pairs) (he : e ≡ a + place_width b.pairs) where
   pub asks_expire : Standing b c t i k ws → Wide (mid_of a (e - a) ws) × (total (pairs_in (mid_of a (e - a) ws)) ≡ get_or (mid_of a (e - a) ws) 2 0)
-      × Is encode_place Sums (mid_of a (e - a) ws)
+      × Is encode_place Summed (mid_of a (e - a) ws)
   asks_expire s = expire_asks b c t i s.lead s.ps s.rest k ws s.totals s.ok s.below s.walk a e ha he s.pairs
 
-  module _ (ys : List ℕ) (left : Left) (x : Turns encode_place Sums (later_place t) (left_of t) (mid_of a (e - a) ws) ys left) where
+  module _ (ys : List ℕ) (left : Left) (x : Turns encode_place Summed (later_place t) (left_of t) (mid_of a (e - a) ws) ys left) where
     pub asks_with : Standing b c t i k ws
-        → (place_head ≤ length (mid_of a (e - a) (put_mid a (e - a) ws ys))) × (get_or (mid_of a (e - a) (put_mid a (e - a) ws ys)) 2 0 ≤ most_entries)
+        → (place_head ≤ length ys) × (get_or ys 2 0 ≤ most_entries)
     asks_with s = with_asks b c t i s.lead s.ps s.rest k ws s.totals s.ok s.below s.walk a e ha he ys left x
 
     pub place_goes : left.pairs ≡ 0 → Steps b c t i k ws (put_mid a (e - a) ws ys) k
     place_goes z = record { does = λ lead ps rest totals ok below w. goes b c t i lead ps rest k ws totals ok below w a e ha he ys left x z }
 
-    pub place_stays : (left.pairs ≡ 0 → ⊥) → (j : ℕ) → j ≡ class_head + k.places * place_width b.pairs → (zs : List ℕ)
+    pub place_stays : (left.pairs ≡ 0 → ⊥) → (j : ℕ) → j ≡ class_head + k.holders * place_width b.pairs → (zs : List ℕ)
         → zs ≡ copy_within (mid_of j (e - j) (put_mid a (e - a) ws ys)) (a - j) (length (mid_of j (e - j) (put_mid a (e - a) ws ys))) 0
-        → (r : Kept) → r ≡ with_words b c (mid_of a (e - a) (put_mid a (e - a) ws ys)) k
+        → (r : Sums) → r ≡ with_place b (read_who c (get_or ys 0 0) (get_or ys 1 0)) (get_or ys 2 0) k
         → Steps b c t i k ws (put_mid j (e - j) (put_mid a (e - a) ws ys) zs) r
     place_stays some j hj zs is r hr = record {
       does = λ lead ps rest totals ok below w. stays b c t i lead ps rest k ws totals ok below w a e ha he ys left x j hj

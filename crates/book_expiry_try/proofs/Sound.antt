@@ -5,7 +5,6 @@ use mathlib.Core.Bool.{true}
 use mathlib.Core.List.{List}
 use lib.ListN.{length}
 use Rattle.model.specs.declared.Class.TheVariants.{Feeders}
-use Rattle.model.specs.declared.Shares.{Shares}
 use Rattle.model.specs.Settings.{shares_fit}
 use Rattle.model.specs.BookWords.{class_form}
 use Rattle.model.specs.Words.{class_width}
@@ -14,9 +13,9 @@ use Rattle.book.specs.ClassRules.{ClassIs}
 use Rattle.book.proofs.Finding.{class_is}
 use Rattle.book_expiry_try.specs.Fixed.{fixed}
 
-pub in_bounds : (b : Shares) → b ≡ fixed → (n : ℕ) → n ≡ class_width fixed → (shares_fit b ≡ true) × (n ≡ class_width b)
+pub in_bounds : (n : ℕ) → n ≡ class_width fixed → (shares_fit fixed ≡ true) × (n ≡ class_width fixed)
 unfolding shares_fit
-in_bounds b is n long = rw is (refl, long)
+in_bounds n long = (refl, long)
 
 pub is_class : (ws : List ℕ) → length ws ≡ class_width fixed → (class_form fixed Feeders).test ws ≡ true → ClassIs fixed Feeders ws
 unfolding shares_fit

@@ -17,6 +17,13 @@ use std::io;
 // The words of the class, which lie in an array: a host lends fixed memory, too.
 const WORDS: usize = layout::CLASS_HEAD + 3 * (2 * 3 + layout::PLACE_HEAD);
 
+const SHARES: Shares = Shares {
+    places: 3,
+    pairs: 3,
+    feeder: 5,
+    peer: 2,
+};
+
 fn print_test(rt: &impl Print, yes: bool, end: &str) -> io::Result<()> {
     let n = u64::from(yes);
     print!(rt; "{n}{end}")
@@ -30,17 +37,6 @@ fn show(rt: &impl Print, words: &[u64]) -> io::Result<()> {
     println!(rt; "")
 }
 
-fn shares() -> Shares
-    ensures { result ≡ fixed }
-{
-    Shares {
-        places: 3,
-        pairs: 3,
-        feeder: 5,
-        peer: 2,
-    }
-}
-
 // Whether these are the words of a well-formed class of Feeders.
 fn is_class(words: &[u64]) -> bool
     ensures { result ≡ true → ClassIs fixed Feeders words.now }
@@ -48,7 +44,7 @@ fn is_class(words: &[u64]) -> bool
     if words.len() != WORDS {
         return false;
     }
-    book_sound::class_sound(words, shares(), Class::Feeders)
+    book_sound::class_sound(words, SHARES, Class::Feeders)
 }
 
 // The test with another word at one place, which is then put back.
@@ -85,7 +81,7 @@ fn expire(rt: &impl Print, words: &mut [u64], second: u64) -> io::Result<()>
     if !sound {
         return Ok(());
     }
-    book_expiry::expire(words, shares(), Class::Feeders, Second(second));
+    book_expiry::expire(words, SHARES, Class::Feeders, Second(second));
     print_test(rt, is_class(words), ":")?;
     show(rt, words)
 }

@@ -12,8 +12,10 @@ use Rattle.model.specs.declared.Shares.{Shares}
 use Rattle.model.specs.Widths.{place_width}
 use Rattle.model.specs.Book.{Place, entries, entries_in, units, place_units}
 use Rattle.model.specs.BookWords.{place_sound, used_place, read_who, read_place}
-use Rattle.book_sound.specs.declared.Sums.{Sums}
-use Rattle.book_sound.specs.PlaceAt.{Within, places_in, test_in, agreeing, totals_rule, no_sums}
+use Rattle.numbers.specs.declared.units.Sums.{Sums}
+use Rattle.numbers.specs.Sums.{no_sums, with_place}
+use Rattle.numbers.proofs.PlaceUnits.{units_small}
+use Rattle.book_sound.specs.PlaceAt.{Within, places_in, test_in, agreeing, totals_rule}
 use Rattle.book_sound.proofs.Chunks.{long, one_more, read_next, test_next, no_more, read_last, test_last}
 use Rattle.book_sound.proofs.Placed.{passed_place}
 
@@ -38,17 +40,14 @@ nil_of : (r : List ℕ) → length r ≡ 0 → r ≡ []
 nil_of [] h = refl
 nil_of (x ∷ r) h = absurd (omega arith)
 
--- the sums with one place more
-abbrev pub more : Sums → ℕ → ℕ → Sums
-more s n u = record { entries = s.entries + n; holders = s.holders + 1; units = s.units + (n + u) }
-
-rule_more : (b : Shares) (t s : Sums) (p : Place) (ps : List Place) (n u : ℕ) → n ≡ entries p → u ≡ place_units b p.who
-    → totals_rule b t s (p ∷ ps) ≡ totals_rule b t (more s n u) ps
+-- one of the places still to come is among those with sums
+rule_more : (b : Shares) (t s : Sums) (p : Place) (ps : List Place) (n : ℕ) → n ≡ entries p
+    → totals_rule b t s (p ∷ ps) ≡ totals_rule b t (with_place b p.who n s) ps
 unfolding totals_rule entries_in units
-rule_more b t s p ps n u hn hu =
+rule_more b t s p ps n hn =
     let x : s.entries + (entries p + entries_in ps) ≡ s.entries + n + entries_in ps = omega arith in
     let y : s.holders + suc (length ps) ≡ s.holders + 1 + length ps = omega arith in
-    let z : s.units + (entries p + place_units b p.who + units b ps) ≡ s.units + (n + u) + units b ps = omega arith in
+    let z : s.units + (entries p + place_units b p.who + units b ps) ≡ s.units + n + place_units b p.who + units b ps = omega arith in
     rw (x, y, z)
 
 -- so many places lie in the words of a class
@@ -75,13 +74,13 @@ module _ {b : Shares} {c : Class} {ws : List ℕ} {t s : Sums} {size : ℕ} {r :
       e ∙ rw (o, rule_none b t s) (sym (l.goes ∙ k))
 
   -- so that no sum wraps where a sound place x is added
-  pub place_few : (x : List ℕ) → true ≡ place_sound c b.pairs x → (get_or x 2 0 ≤ 2_000_000) × (s.entries ≤ 128_000_000) × (s.units ≤ 128_262_144)
+  pub place_few : (x : List ℕ) → true ≡ place_sound c b.pairs x → (get_or x 2 0 ≤ 2_000_000) × (s.entries ≤ 128_000_000) × (s.holders ≤ 64) × (s.units ≤ 128_262_144)
   place_few x f =
       let p = passed_place x c b.pairs (sym f) in
       let k = l.small in
       let m = l.low in
       let g = l.few in
-      (p.1, omega arith, omega arith)
+      (p.1, omega arith, omega arith, omega arith)
 
   module _ (x q : List ℕ) (split : (r ≡ x ++ q) × (length x ≡ size)) where
     -- an unused place: the rest is zeros
@@ -99,10 +98,11 @@ module _ {b : Shares} {c : Class} {ws : List ℕ} {t s : Sums} {size : ℕ} {r :
       pub adds_not : false ≡ place_sound c b.pairs x → false ≡ summed b c ws t
       adds_not f = sym (rw (← f) at on)
 
-      -- a sound one is added; v are its units
-      pub adds_on : true ≡ place_sound c b.pairs x → {v : ℕ} → v ≤ 4_096 → ((number : ℕ) → v ≡ place_units b (read_who c (get_or x 0 0) number)) → {n : ℕ} → n ≡ size
-          → Adds b c ws t (more s (get_or x 2 0) v) n q
-      adds_on f {v} least hv e =
+      -- a sound one is added
+      pub adds_on : true ≡ place_sound c b.pairs x → b.feeder ≤ 4_096 → b.peer ≤ 4_096 → {r : Sums} → r ≡ with_place b (read_who c (get_or x 0 0) (get_or x 1 0)) (get_or x 2 0) s
+          → {n : ℕ} → n ≡ size → Adds b c ws t r n q
+      adds_on f feeder peer hr e =
+          let least = units_small b (read_who c (get_or x 0 0) (get_or x 1 0)) feeder peer in
           let p = passed_place x c b.pairs (sym f) in
           let o = one_more b c x q split l.wide in
           let w = l.whole in
@@ -113,11 +113,11 @@ module _ {b : Shares} {c : Class} {ws : List ℕ} {t s : Sums} {size : ℕ} {r :
           let a : length r ≡ length x + length q = rw (split.0, length-append) in
           let y : length q ≡ length q / place_width b.pairs * place_width b.pairs = let z = rw (o, suc-mul) at w in omega arith in
           let h = p.1 in
-          record {
+          rw hr (record {
             wide = e ∙ l.wide;
             whole = y;
             few = omega arith;
             small = omega arith;
             low = omega arith;
-            goes = rw (← f) at on ∙ rw (rule_more b t s (read_place c x) (places_in b c q) (get_or x 2 0) v p.0 (hv (get_or x 1 0)));
-          }
+            goes = rw (← f) at on ∙ rw (rule_more b t s (read_place c x) (places_in b c q) (get_or x 2 0) p.0);
+          })

@@ -19,8 +19,9 @@ use Rattle.model.specs.Book.{Place, entries_in, units}
 use Rattle.model.specs.BookWords.{most_entries, place_form, used_place, distinct, class_form}
 use Rattle.model.specs.Words.{class_width}
 use Rattle.model.proofs.Bounds.{shares_bounds}
-use Rattle.book_sound.specs.PlaceAt.{Few, Within, places_in, totals_rule, no_sums}
-use Rattle.book_sound.specs.declared.Sums.{Sums}
+use Rattle.book_sound.specs.PlaceAt.{Few, Within, places_in, totals_rule}
+use Rattle.numbers.specs.declared.units.Sums.{Sums}
+use Rattle.numbers.specs.Sums.{no_sums}
 use Rattle.book_sound.proofs.Adding.{summed, places_many}
 
 pub few_of : (b : Shares) → shares_fit b ≡ true → Few b

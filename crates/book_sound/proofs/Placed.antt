@@ -12,7 +12,7 @@ use Rattle.runs.proofs.Cases.{each_true}
 use Rattle.model.specs.declared.Class.{Class}
 use Rattle.model.specs.Widths.{place_head, place_width}
 use Rattle.model.specs.Book.{total, entries}
-use Rattle.model.specs.BookWords.{most_entries, read_pairs, pairs_sound, kind_sound, counts_sound, place_sound, read_place}
+use Rattle.model.specs.BookWords.{most_entries, read_pairs, pairs_sound, kind_sound, place_sound, read_place}
 
 module _ (ws : List ℕ) (c : Class) (E : ℕ) where
   abbrev kind_part : Bool

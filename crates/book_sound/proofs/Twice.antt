@@ -1,6 +1,6 @@
 -- The two loops that tell deliverers apart, a turn at a time.
 use Prim.Native.Nat.{ℕ, ◌<◌}
-use mathlib.Core.Path.{◌≡◌, refl, ◌∙◌}
+use mathlib.Core.Path.{◌≡◌, ◌∙◌}
 use mathlib.Core.Bool.{true, false, not, ◌&&◌, ◌||◌}
 use mathlib.Core.List.{List, ◌++◌}
 use lib.ListN.{length, get_or}
@@ -17,9 +17,6 @@ use Rattle.book_sound.proofs.Chunks.{read_next, read_last}
 pub record Seeks (b : Shares) (c : Class) (ws : List ℕ) (who : Deliverer) (size : ℕ) (r : List ℕ) : Type 0 where
   pub wide : size ≡ place_width b.pairs
   pub goes : has_place who (places_in b c r) ≡ has_place who (places_in b c ws)
-
-pub seeks_start : (b : Shares) (c : Class) (ws : List ℕ) (who : Deliverer) {size : ℕ} → size ≡ place_width b.pairs → Seeks b c ws who size ws
-seeks_start b c ws who e = record { wide = e; goes = refl }
 
 module _ {b : Shares} {c : Class} {ws : List ℕ} {who : Deliverer} {size : ℕ} {r : List ℕ} (l : Seeks b c ws who size r) where
   pub seeks_end : length r < size → false ≡ has_place who (places_in b c ws)
@@ -46,9 +43,6 @@ module _ {b : Shares} {c : Class} {ws : List ℕ} {who : Deliverer} {size : ℕ}
 pub record Apart (b : Shares) (c : Class) (ws : List ℕ) (size : ℕ) (r : List ℕ) : Type 0 where
   pub wide : size ≡ place_width b.pairs
   pub goes : distinct (places_in b c r) ≡ distinct (places_in b c ws)
-
-pub apart_start : (b : Shares) (c : Class) (ws : List ℕ) {size : ℕ} → size ≡ place_width b.pairs → Apart b c ws size ws
-apart_start b c ws e = record { wide = e; goes = refl }
 
 module _ {b : Shares} {c : Class} {ws : List ℕ} {size : ℕ} {r : List ℕ} (l : Apart b c ws size r) where
   pub apart_end : length r < size → true ≡ distinct (places_in b c ws)

@@ -6,7 +6,7 @@ use Rattle.runs.specs.Combine.{read_up, test_up}
 use Rattle.model.specs.Widths.{place_width}
 use Rattle.model.specs.Book.{Place, entries_in, units}
 use Rattle.model.specs.BookWords.{most_entries, place_form, used_place}
-use Rattle.book_sound.specs.declared.Sums.{Sums}
+use Rattle.numbers.specs.declared.units.Sums.{Sums}
 
 -- the bounds of settings that fit
 pub record Few (b : Shares) : Type 0 where
@@ -29,9 +29,6 @@ abbrev pub test_in : Shares → Class → List ℕ → Bool
 test_in b c ws = test_up (place_form c b.pairs) used_place (length ws / place_width b.pairs) ws
 
 -- ---- sums
-abbrev pub no_sums : Sums
-no_sums = record { entries = 0; holders = 0; units = 0 }
-
 -- the totals are those that were added up
 abbrev pub agreeing : Sums → Sums → Bool
 agreeing t s = leb s.entries most_entries && (eqb t.entries s.entries && (eqb t.holders s.holders && eqb t.units s.units))

@@ -30,6 +30,7 @@ pub fn distinct(body: &[u64], shares: Shares, class: Class) -> bool
     ensures { result ≡ distinct_rule (places_in shares class body.now) }
 {
     let width = starts::place_width(shares);
+    // The words that the iterator has left, which it does not lend.
     let mut later = body;
     for place in body.chunks_exact(width) {
         later = &later[width..];

@@ -7,21 +7,13 @@ ghost use Rattle.model.specs.Settings.{shares_fit};
 ghost use Rattle.model.specs.BookWords.{class_form};
 ghost use Rattle.model.specs.Words.{class_width};
 
-use model::{Class, Shares};
-use numbers::capped::TOP32;
+use model::{Class, Second, Shares};
 use numbers::layout;
+use numbers::units::Sums;
 
 mod apart;
 mod place;
 mod places;
-
-// What the places of a class add up to, and what its totals say of it.
-#[derive(PartialEq, Eq, Clone, Copy)]
-struct Sums {
-    entries: u64,
-    holders: u64,
-    units: u64,
-}
 
 // The words of a class are sound: used places first and each sound, zeros after them, deliverers distinct, `expired` 32-bit, and
 // the three totals are the sums.
@@ -37,5 +29,5 @@ pub fn class_sound(part: &[u64], shares: Shares, class: Class) -> bool
     };
     let body = &part[layout::CLASS_HEAD..];
     places::places_sound(body, shares, class, totals)
-        && (apart::distinct(body, shares, class) && part[layout::CLASS_EXPIRED] <= TOP32)
+        && (apart::distinct(body, shares, class) && part[layout::CLASS_EXPIRED] <= Second::LAST)
 }

@@ -1,12 +1,14 @@
 // The places of a class, tested and added up in one pass.
 ghost use Rattle.std.specs.Prelude.{◌≡◌, ◌&&◌};
 ghost use Rattle.runs.specs.Words.{zeros};
-ghost use Rattle.book_sound.specs.PlaceAt.{Within, places_in, test_in, agreeing, totals_rule, no_sums};
+ghost use Rattle.numbers.specs.Sums.{no_sums};
+ghost use Rattle.book_sound.specs.PlaceAt.{Within, places_in, test_in, agreeing, totals_rule};
 
-use crate::{Sums, place};
+use crate::place;
 use model::{Class, Shares};
 use numbers::bounds::MOST_ENTRIES;
-use numbers::{layout, starts, units};
+use numbers::units::Sums;
+use numbers::{layout, starts};
 
 // What is left is 0, and the sums are in bounds and are the totals.
 fn agree(left: &[u64], sums: Sums, totals: Sums) -> bool
@@ -22,11 +24,8 @@ pub fn places_sound(body: &[u64], shares: Shares, class: Class, totals: Sums) ->
     ensures { result ≡ (test_in shares class body.now && totals_rule shares totals no_sums (places_in shares class body.now)) }
 {
     let width = starts::place_width(shares);
-    let mut sums = Sums {
-        entries: 0,
-        holders: 0,
-        units: 0,
-    };
+    let mut sums = Sums::NONE;
+    // The words that the iterator has left, which it does not lend.
     let mut left = body;
     for place in body.chunks_exact(width) {
         if !place::in_use(place) {
@@ -35,10 +34,12 @@ pub fn places_sound(body: &[u64], shares: Shares, class: Class, totals: Sums) ->
         if !place::place_sound(place, shares.pairs, class) {
             return false;
         }
-        let entries = place[layout::PLACE_ENTRIES];
-        sums.entries += entries;
-        sums.holders += 1;
-        sums.units += entries + units::units_of(shares, class, place[layout::PLACE_KIND]);
+        sums = sums.with_place(
+            shares,
+            class,
+            place[layout::PLACE_ENTRIES],
+            place[layout::PLACE_KIND],
+        );
         left = &left[width..];
     }
     agree(left, sums, totals)

@@ -10,6 +10,7 @@ ghost use Rattle.model.specs.Words.{class_width};
 ghost use Rattle.book.specs.ClassRules.{ClassIs};
 ghost use Rattle.book_try.specs.Fixed.{fixed};
 
+use book::front::Terms;
 use model::{Deliverer, Draw, Limits, Second, Shares};
 use numbers::layout;
 use std::io;
@@ -24,12 +25,15 @@ const SHARES: Shares = Shares {
     peer: 2,
 };
 
-const LIMITS: Limits = Limits {
-    feeder: 12,
-    feeders: 12,
-    peer: 12,
-    peers: 12,
-    relay: 12,
+const TERMS: Terms = Terms {
+    limits: Limits {
+        feeder: 12,
+        feeders: 12,
+        peer: 12,
+        peers: 12,
+        relay: 12,
+    },
+    closed: false,
 };
 
 // The words. book_expiry_try has these lines too: no crate that both use prints, and one for them would be longer.
@@ -38,19 +42,6 @@ fn show(rt: &impl Print, words: &[u64]) -> io::Result<()> {
         print!(rt; "{word} ")?;
     }
     println!(rt; "")
-}
-
-fn number_of(d: Draw) -> u64 {
-    match d {
-        Draw::Granted => 0,
-        Draw::Closed => 1,
-        Draw::OwnShare => 2,
-        Draw::ClassLimit => 3,
-        Draw::EqualPart => 4,
-        Draw::TwiceLimit => 5,
-        Draw::Places => 6,
-        Draw::Pairs => 7,
-    }
 }
 
 // No places, and totals of 0.
@@ -67,7 +58,7 @@ fn take(rt: &impl Print, words: &mut [u64], id: u64, second: u64) -> io::Result<
     ensures { ClassIs fixed Feeders words.new }
 {
     let who = Deliverer::Feeder(id);
-    let n = number_of(book::take(words, SHARES, LIMITS, false, who, Second(second)));
+    let n = book::take(words, SHARES, TERMS, who, Second(second)) as u64;
     print!(rt; "{n} ")
 }
 

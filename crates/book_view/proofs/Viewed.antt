@@ -80,18 +80,15 @@ module _ {b : Shares} (who : Deliverer) {ws : List ℕ} (w : ClassIs b (class_of
     h : at < get_or ws 1 0
     h = in_use b who ws w at r
 
-    module _ {a n : ℕ} (ha : a ≡ class_head + at * place_width b.pairs) (hn : n ≡ place_width b.pairs) where
+    module _ {a e : ℕ} (ha : a ≡ class_head + at * place_width b.pairs) (he : e ≡ a + place_width b.pairs) where
       abbrev here : List ℕ
-      here = mid_of a (a + n - a) ws
+      here = mid_of a (e - a) ws
 
-      ends : a + n ≡ a + place_width b.pairs
-      ends = omega arith
-
-      pub here_inside : a + n ≤ length ws
+      pub here_inside : e ≤ length ws
       here_inside = let k = in_part b (class_of who) ws w at h in omega arith
 
       pub here_wide : Wide here
-      here_wide = part_wide b (class_of who) ws w at a (a + n) h ha ends
+      here_wide = part_wide b (class_of who) ws w at a e h ha he
 
       here_is : place_view here ≡ places_view who all
       here_is =
@@ -99,7 +96,7 @@ module _ {b : Shares} (who : Deliverer) {ws : List ℕ} (w : ClassIs b (class_of
           let l = h in
           let i = index_is b who ws w at r in
           let p = get_or all at nobody in
-          let s = part_here b (class_of who) ws w at a (a + n) h ha ends in
+          let s = part_here b (class_of who) ws w at a e h ha he in
           let q : pairs_of who all ≡ p.pairs = rw (← i) at (pairs_at who 0 all (omega arith)) in
           let u : entries_of who all ≡ entries p = rw (← i) at (entries_at who 0 all (omega arith)) in
           rw (s, q, u, read_flat p.pairs p.past)

@@ -43,9 +43,7 @@ pub fn view_length(part: &[u64], shares: Shares, who: Deliverer) -> usize
     let Some(at) = book::find_place(part, shares, who) else {
         return 1;
     };
-    let start = starts::place_start(shares, at);
-    let end = start + starts::place_width(shares);
-    place_length(&part[start..end])
+    place_length(&part[starts::place_extent(shares, at)])
 }
 
 // Writes it at the start of an output that is long enough, leaves what lies behind it, and answers how many words it has.
@@ -57,7 +55,5 @@ pub fn view(out: &mut [u64], part: &[u64], shares: Shares, who: Deliverer) -> us
         out[0] = 0;
         return 1;
     };
-    let start = starts::place_start(shares, at);
-    let end = start + starts::place_width(shares);
-    put_place(out, &part[start..end])
+    put_place(out, &part[starts::place_extent(shares, at)])
 }

@@ -28,7 +28,8 @@ fn joined(n: u64, b: u8) -> Option<u64>
     n.checked_mul(10)?.checked_add(u64::from(b - b'0'))
 }
 
-// Writes a number into `out` from a place on, and returns the place behind it. Every other byte stays as it was.
+// Writes a number into `out` from a place on, and returns the place behind it. Every other byte stays as it was. A place and no rest of
+// the output: so one number is written behind another, and no caller adds lengths.
 #[tactic(auto, using(crate::proofs::ReadBack::twenty_at_most, crate::proofs::ReadBack::not_empty))]
 pub fn write(n: u64, out: &mut [u8], at: usize) -> usize
     requires { at + 20 ≤ length out.old }

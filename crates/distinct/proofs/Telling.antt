@@ -1,28 +1,88 @@
 -- Sorted words are distinct where neighbours differ, and words are as distinct as when they are sorted.
-use Prim.Native.Nat.{ℕ, ◌+◌, ◌<◌, ◌≤◌}
+use Prim.Native.Nat.{ℕ, zero, suc, ◌+◌, ◌<◌, ◌≤◌}
 use native.Mathlib.Omega.{arith}
 use native.Mathlib.Numerals.{add-one}
 use mathlib.Core.Path.{◌≡◌, refl, sym, ◌∙◌}
-use mathlib.Core.Bool.{Bool, true, false, not, ◌&&◌, ◌||◌, and_assoc, and-true}
+use mathlib.Core.Bool.{Bool, true, false, not, ◌||◌, and-false}
 use mathlib.Core.List.{List, [], ◌∷◌}
-use lib.ListN.{length, get_or, drop, drop_of_length-le}
-use lib.Seq.{drop-cons}
+use lib.ListN.{length, get_or}
 use lib.Dec.{eqb, ltb}
+use Rattle.std.specs.Bool.{MatchBool}
+use Rattle.std.specs.Prelude.{Option, Some, None, IsSomeAnd, IfSome}
+use Rattle.std.specs.Iterator.Runs.{Run, IsWindowsRun, AllItems, AnyItem}
+use denote.Ref.{Bor}
 use borrow.Author.Tests.{eq-eqb, ne_eqb, eqb-true, eqb-false, not-true, ltb-true, ltb-false}
 use Rattle.runs.proofs.Cases.{by_test, both_true, no}
 use Rattle.model.specs.Generation.{among}
 use Rattle.distinct.specs.Runs.{distinct, differs, Rising, times, Sorts}
 
--- ---- the loop of neighbours_differ
-module _ (ws : List ℕ) (i last : ℕ) (all : Bool) (h : (all && differs last (drop i ws)) ≡ differs 0 ws) where
-  pub differs_on : i < length ws
-      → (all && (eqb (get_or ws i 0) 0 || not (eqb last (get_or ws i 0))) && differs (get_or ws i 0) (drop (i + 1) ws)) ≡ differs 0 ws
-  unfolding differs
-  differs_on k = let e = rw (drop-cons ws i 0 k) at h in rw (add-one, and_assoc) e
+-- ---- neighbours_differ
+-- word y may stand after word x
+abbrev apart : ℕ → ℕ → Bool
+apart x y = eqb y 0 || not (eqb x y)
 
-  pub differs_end : length ws ≤ i → all ≡ differs 0 ws
-  unfolding differs
-  differs_end k = sym (and-true all) ∙ (rw drop_of_length-le at h)
+differs_all : (x : ℕ) (ws : List ℕ) → ((k : ℕ) → k < length ws → apart (get_or (x ∷ ws) k 0) (get_or ws k 0) ≡ true) → differs x ws ≡ true
+unfolding differs
+differs_all x [] h = refl
+differs_all x (y ∷ ws) h = let a = h 0 (omega arith) in let b = differs_all y ws (λ k l. h (suc k) (omega arith)) in rw (a, b)
+
+differs_some : (x : ℕ) (ws : List ℕ) (k : ℕ) → k < length ws → apart (get_or (x ∷ ws) k 0) (get_or ws k 0) ≡ false → differs x ws ≡ false
+unfolding differs
+differs_some x [] k l h = absurd (omega arith)
+differs_some x (y ∷ ws) zero l h = rw h
+differs_some x (y ∷ ws) (suc k) l h = let b = differs_some y ws k (omega arith) h in rw b (and-false (apart x y))
+
+-- any word may stand after 0
+zero_first : (y : ℕ) → apart 0 y ≡ true
+zero_first y = by_test (eqb y 0) (λ e. rw e) (λ e. let d : eqb 0 y ≡ false = ne_eqb 0 y (λ q. omega (arith, eqb-false y 0 e)) in rw (e, d))
+
+differ_told : (ws : List ℕ) (r : Bool)
+    → MatchBool r ((k : ℕ) → k + 1 < length ws → apart (get_or ws k 0) (get_or ws (k + 1) 0) ≡ true)
+    ((k : ℕ) × (k + 1 < length ws) × (apart (get_or ws k 0) (get_or ws (k + 1) 0) ≡ false))
+    → r ≡ differs 0 ws
+unfolding differs
+differ_told [] true h = refl
+differ_told [] false h = let l = h.1 in absurd (omega (arith, l))
+differ_told (y ∷ ws) true h = let z = zero_first y in let a = differs_all y ws (λ k l. rw add-one at (h k (omega arith))) in rw (z, a)
+differ_told (y ∷ ws) false h =
+    let l = h.1 in
+    let z = zero_first y in
+    let a = differs_some y ws h.0 (omega arith) (rw add-one at h.2) in rw (z, a)
+
+-- the windows of two words, tested up to the first whose words are not apart
+module _ {S : Type 0} {steps : S → Option (Bor (List ℕ)) → S → Type 0} (p : Run steps) (ws : List ℕ) (w : IsWindowsRun p 2 ws) where
+  abbrev Pair : ℕ → Bor (List ℕ) → Type 0
+  Pair k y = (get_or y.now 0 0 ≡ get_or ws k 0) × (get_or y.now 1 0 ≡ get_or ws (k + 1) 0) × (k + 1 < length ws)
+
+  pair_at : (k : ℕ) → k < p.len → (x : Option (Bor (List ℕ))) → p.at k ≡ x → IsSomeAnd x (Pair k)
+  pair_at k l None e = no (let q = rw e at (w.3 k 0 l) in cc)
+  pair_at k l (Some y) e =
+      let q = rw e at (w.2 k) in
+      let z : k + 0 ≡ k = omega arith in
+      let f = q.2.2 0 0 (omega arith) in
+      let long = q.1 in (rw z at f, q.2.2 1 0 (omega arith), omega arith)
+
+  apart_at : (b : Bool) (k : ℕ) → (x : Option (Bor (List ℕ))) → IsSomeAnd x (Pair k)
+      → IfSome x (λ y. apart (get_or y.now 0 0) (get_or y.now 1 0) ≡ b) → apart (get_or ws k 0) (get_or ws (k + 1) 0) ≡ b
+  apart_at b k None q h = absurd q
+  apart_at b k (Some y) q h = rw (q.0, q.1) at h
+
+  found_at : (k : ℕ) → (x : Option (Bor (List ℕ))) → IsSomeAnd x (Pair k)
+      → IsSomeAnd x (λ y. apart (get_or y.now 0 0) (get_or y.now 1 0) ≡ false)
+      → (k + 1 < length ws) × (apart (get_or ws k 0) (get_or ws (k + 1) 0) ≡ false)
+  found_at k None q h = absurd q
+  found_at k (Some y) q h = (q.2, rw (q.0, q.1) at h)
+
+  pub windows_told : (r : Bool)
+      → MatchBool r ((p.whole ≡ true) × AllItems p (λ x. apart (get_or x.now 0 0) (get_or x.now 1 0) ≡ true))
+      (AnyItem p (λ x. apart (get_or x.now 0 0) (get_or x.now 1 0) ≡ false))
+      → r ≡ differs 0 ws
+  windows_told true m =
+      let len = w.1 m.0 in
+      differ_told ws true (λ k l. apart_at true k (p.at k) (pair_at k (omega arith) (p.at k) refl) (m.1 k))
+  windows_told false m =
+      let f = found_at m.0 (p.at m.0) (pair_at m.0 m.1 (p.at m.0) refl) m.2 in
+      differ_told ws false (m.0, f.0, f.1)
 
 -- ---- of rising words
 -- what is below the first is not among them

@@ -10,17 +10,12 @@ use crate::sort::sort;
 mod sort;
 
 // Whether no word but 0 is the same as the one before it.
-#[tactic(auto, using(crate::proofs::Telling::differs_on, crate::proofs::Telling::differs_end))]
 fn neighbours_differ(words: &[u64]) -> bool
     ensures { result ≡ differs 0 words.now }
 {
-    let mut all = true;
-    let mut last = 0;
-    for word in words {
-        all &= (*word == 0) | (last != *word);
-        last = *word;
-    }
-    all
+    words
+        .array_windows::<2>()
+        .all(|[last, word]| *word == 0 || last != word)
 }
 
 // Whether words are distinct. They are copied to `sorted`, which is sorted with the help of `spare`.

@@ -1,6 +1,6 @@
 -- Of the words of a well-formed register, what the code writes is the model's dump, and its length that of the model's.
-use Prim.Native.Nat.{ℕ, suc, ◌+◌, ◌*◌, ◌≤◌}
-use native.Mathlib.Nat.{mul-le-mul}
+use Prim.Native.Nat.{ℕ, suc, ◌+◌, ◌*◌, ◌/◌, ◌<◌, ◌≤◌}
+use native.Mathlib.Nat.{mul-pos}
 use native.Mathlib.Omega.{arith}
 use mathlib.Core.Path.{◌≡◌, refl, ap, ◌∙◌}
 use mathlib.Core.Bool.{cond}
@@ -8,7 +8,7 @@ use mathlib.Core.List.{List, [], ◌∷◌, ◌++◌}
 use Rattle.std.specs.Prelude.{Option, Some, None}
 use lib.Dec.{eqb}
 use lib.ListN.{length, get_or, take, drop, length-append}
-use lib.Seq.{take_at, drop_at, take_all, drop-drop}
+use lib.Seq.{take_at, drop_at}
 use Rattle.runs.specs.Chunks.{flat}
 use Rattle.runs.specs.Combine.{EachOk}
 use Rattle.runs.proofs.Cases.{by_test}
@@ -21,12 +21,15 @@ use Rattle.model.specs.RegisterWords.{floor_flag, floor_word, heading_width, enc
 use Rattle.model.specs.Generation.{Generation, count}
 use Rattle.model.specs.GenerationWords.{encode_generation, GenerationOk}
 use Rattle.model.specs.Dump.{word_bytes, dumped_floor, held_list, generation_words, class_words, dump_words, dump_bytes}
-use Rattle.model.specs.Most.{generation_most}
 use Rattle.model.proofs.BytesRead.{bytes_long}
+use Rattle.model.proofs.Bounds.{ring_positive}
 use Rattle.model.proofs.GenerationWords.{generation_wide, live_pad}
 use Rattle.model.proofs.DumpRead.{prints_length}
 use Rattle.generation.proofs.Looking.{bounded}
-use Rattle.dump.specs.Parts.{part_words, part_length, parts, parts_words, parts_length, parts_held, ring_words, AllBounded, Laid, LaidOut, floor_of, ring_at, register_words, register_long}
+use Rattle.generation.specs.Words.{Bounded}
+use Rattle.dump.specs.Parts.{part_words, part_length, one_held, parts, parts_total, AllParts, shown, total}
+use Rattle.dump.specs.Parts.{Laid, ring_shown, count_before, floor_of, register_shown, register_words, register_long, LaidOut}
+use Rattle.dump.proofs.Joined.{count_of, count_all, total_all, each_all, shown_three, each_three}
 use Rattle.runs.specs.Over.{written}
 use Rattle.dump.specs.Bytes.{Fits, Puts}
 
@@ -55,7 +58,7 @@ module _ (S n : ℕ) where
   behind g us = drop_at (encode_generation S g) us (generation_width S) (generation_wide S g)
 
   -- what each part comes to is what each held generation comes to, in dump sequence
-  pub parts_are : (f : List ℕ → List ℕ) (words : Generation → List ℕ)
+  parts_are : (f : List ℕ → List ℕ) (words : Generation → List ℕ)
       → ((g : Generation) → length g.slots ≤ S → f (encode_generation S g) ≡ if_held g (words g))
       → (i : ℕ) (gs : List Generation) → EachOk (GenerationOk S n) i gs
       → parts f (generation_width S) (length gs) (flat (encode_generation S) gs) ≡ flat words (held_list gs)
@@ -66,27 +69,27 @@ module _ (S n : ℕ) where
       (by_test (eqb (count g.slots) 0) (λ e. rw e) (λ e. rw e))
 
   words_are : (i : ℕ) (gs : List Generation) → EachOk (GenerationOk S n) i gs
-      → parts_words (generation_width S) (length gs) (flat (encode_generation S) gs) ≡ flat generation_words (held_list gs)
+      → parts part_words (generation_width S) (length gs) (flat (encode_generation S) gs) ≡ flat generation_words (held_list gs)
   words_are i gs ok = parts_are part_words generation_words (part_is S) i gs ok
 
-  pub held_are : (gs : List Generation) → parts_held (generation_width S) (length gs) (flat (encode_generation S) gs) ≡ length (held_list gs)
-  unfolding parts_held held_list flat
+  held_are : (gs : List Generation) → parts_total one_held (generation_width S) (length gs) (flat (encode_generation S) gs) ≡ length (held_list gs)
+  unfolding parts_total one_held held_list flat
   held_are [] = refl
   held_are (g ∷ gs) =
-      rw (behind g (flat (encode_generation S) gs), held_are gs)
+      rw (front g (flat (encode_generation S) gs), behind g (flat (encode_generation S) gs), held_are gs)
       (by_test (eqb (count g.slots) 0) (λ e. rw e (omega arith)) (λ e. rw e (omega arith)))
 
   long_are : (i : ℕ) (gs : List Generation) → EachOk (GenerationOk S n) i gs
-      → parts_length (generation_width S) (length gs) (flat (encode_generation S) gs)
-      ≡ length (parts_words (generation_width S) (length gs) (flat (encode_generation S) gs))
-  unfolding parts_length parts flat EachOk
+      → parts_total part_length (generation_width S) (length gs) (flat (encode_generation S) gs)
+      ≡ length (parts part_words (generation_width S) (length gs) (flat (encode_generation S) gs))
+  unfolding parts_total parts flat EachOk
   long_are i [] ok = refl
   long_are i (g ∷ gs) ok =
       rw (front g (flat (encode_generation S) gs), behind g (flat (encode_generation S) gs), long_are (suc i) gs ok.1, part_long S g ok.0.fits, length-append)
 
   bounds_are : (i : ℕ) (gs : List Generation) → EachOk (GenerationOk S n) i gs → S ≤ 1_024
-      → AllBounded (generation_width S) (length gs) (flat (encode_generation S) gs)
-  unfolding AllBounded flat EachOk
+      → AllParts Bounded (generation_width S) (length gs) (flat (encode_generation S) gs)
+  unfolding AllParts flat EachOk
   bounds_are i [] ok small = tt
   bounds_are i (g ∷ gs) ok small =
       rw (front g (flat (encode_generation S) gs), behind g (flat (encode_generation S) gs))
@@ -94,43 +97,36 @@ module _ (S n : ℕ) where
 
   -- all of it, of n positions
   module _ (gs : List Generation) (ok : (length gs ≡ n) × EachOk (GenerationOk S n) 0 gs) where
-    ring_long : length (flat (encode_generation S) gs) ≡ n * generation_width S
+    pub ring_long : length (flat (encode_generation S) gs) ≡ n * generation_width S
     ring_long = let l = length_flat (encode_generation S) (generation_width S) (generation_wide S) gs in l ∙ ap (λ (m : ℕ). m * generation_width S) ok.0
 
-    pub ring_is : ring_words (generation_width S) n (flat (encode_generation S) gs) ≡ class_words gs
-    unfolding ring_words class_words
-    ring_is = rw (← ok.0, held_are gs) (ap (λ (l : List ℕ). length (held_list gs) ∷ l) (words_are 0 gs ok.1))
+    ring_count : length (flat (encode_generation S) gs) / generation_width S ≡ n
+    ring_count = count_of (generation_width S) n (flat (encode_generation S) gs) (omega arith) ring_long
 
-    pub ring_counted : parts_length (generation_width S) n (flat (encode_generation S) gs) + 1 ≡ length (class_words gs)
+    pub ring_parts : (f : List ℕ → List ℕ) (words : Generation → List ℕ)
+        → ((g : Generation) → length g.slots ≤ S → f (encode_generation S g) ≡ if_held g (words g))
+        → shown f (generation_width S) (flat (encode_generation S) gs) ≡ flat words (held_list gs)
+    ring_parts f words one = rw (ring_count, ← ok.0) (parts_are f words one 0 gs ok.1)
+
+    pub ring_held : total one_held (generation_width S) (flat (encode_generation S) gs) ≡ length (held_list gs)
+    ring_held = rw (ring_count, ← ok.0) (held_are gs)
+
+    ring_is : ring_shown count_before part_words (generation_width S) (flat (encode_generation S) gs) ≡ class_words gs
+    unfolding class_words
+    ring_is = rw (ring_held, ring_parts part_words generation_words (part_is S))
+
+    ring_counted : total part_length (generation_width S) (flat (encode_generation S) gs) + 1 ≡ length (class_words gs)
     unfolding class_words
     ring_counted =
         let e = long_are 0 gs ok.1 ∙ ap length (words_are 0 gs ok.1) in
-        let m = ok.0 in
-        let q = rw m at e in
-        omega arith
+        let q = rw ok.0 at e in
+        rw ring_count (omega arith)
 
-    pub ring_laid : S ≤ 1_024 → n ≤ 256 → Laid (generation_width S) n (flat (encode_generation S) gs)
+    ring_laid : S ≤ 1_024 → n ≤ 256 → Laid (generation_width S) (flat (encode_generation S) gs)
     ring_laid small few =
         let b = bounds_are 0 gs ok.1 small in
-        let m = ok.0 in
-        let l = ring_long in
-        record { wide = omega arith; few = few; long = omega arith; bounded = rw m at b }
-
--- ---- three lists of one length behind another
-module _ (H A B C : List ℕ) (h x : ℕ) (hh : length H ≡ h) (ha : length A ≡ x) (hb : length B ≡ x) (hc : length C ≡ x) where
-  first_of : take x (drop (h + 0 * x) (H ++ (A ++ (B ++ C)))) ≡ A
-  first_of = let e : h + 0 * x ≡ h = omega arith in rw (e, drop_at H (A ++ (B ++ C)) h hh) (take_at A (B ++ C) x ha)
-
-  second_of : take x (drop (h + 1 * x) (H ++ (A ++ (B ++ C)))) ≡ B
-  second_of =
-      let e : h + 1 * x ≡ h + x = omega arith in
-      rw (e, ← drop-drop x h (H ++ (A ++ (B ++ C))), drop_at H (A ++ (B ++ C)) h hh, drop_at A (B ++ C) x ha) (take_at B C x hb)
-
-  third_of : take x (drop (h + 2 * x) (H ++ (A ++ (B ++ C)))) ≡ C
-  third_of =
-      let e : h + 2 * x ≡ h + x + x = omega arith in
-      rw (e, ← drop-drop x (h + x) (H ++ (A ++ (B ++ C))), ← drop-drop x h (H ++ (A ++ (B ++ C))), drop_at H (A ++ (B ++ C)) h hh, drop_at A (B ++ C) x ha, drop_at B C x hb)
-      (take_all x C (omega arith))
+        let c = ring_count in
+        record { wide = omega arith; few = omega arith; bounded = rw (ring_count, ← ok.0) b }
 
 -- ---- a register
 floor_is : (f : Option ℕ) → floor_of (floor_flag f) (floor_word f) ≡ dumped_floor f
@@ -144,32 +140,37 @@ module _ (u : Usable) (reg : Register) (ok : (register_form u).Ok reg) (ws : Lis
   abbrev pub words_of_ring : List Generation → List ℕ
   words_of_ring gs = flat (encode_generation u.slots) gs
 
-  pub feeders : ring_at wide (ring_of u) 0 ws ≡ words_of_ring reg.rings.of_feeders
-  feeders =
-      let l = ok.0 in
-      rw is
-      (first_of (encode_heading u (of_register reg).head) (words_of_ring reg.rings.of_feeders) (words_of_ring reg.rings.of_peers)
-      (words_of_ring reg.rings.of_own) heading_width (ring_of u * wide) (omega arith)
-      (ring_long u.slots (ring_of u) reg.rings.of_feeders ok.1.0) (ring_long u.slots (ring_of u) reg.rings.of_peers ok.1.1.0)
-      (ring_long u.slots (ring_of u) reg.rings.of_own ok.1.1.1))
+  abbrev A : List ℕ
+  A = words_of_ring reg.rings.of_feeders
 
-  pub peers : ring_at wide (ring_of u) 1 ws ≡ words_of_ring reg.rings.of_peers
-  peers =
-      let l = ok.0 in
-      rw is
-      (second_of (encode_heading u (of_register reg).head) (words_of_ring reg.rings.of_feeders) (words_of_ring reg.rings.of_peers)
-      (words_of_ring reg.rings.of_own) heading_width (ring_of u * wide) (omega arith)
-      (ring_long u.slots (ring_of u) reg.rings.of_feeders ok.1.0) (ring_long u.slots (ring_of u) reg.rings.of_peers ok.1.1.0)
-      (ring_long u.slots (ring_of u) reg.rings.of_own ok.1.1.1))
+  abbrev B : List ℕ
+  B = words_of_ring reg.rings.of_peers
 
-  pub own : ring_at wide (ring_of u) 2 ws ≡ words_of_ring reg.rings.of_own
-  own =
-      let l = ok.0 in
-      rw is
-      (third_of (encode_heading u (of_register reg).head) (words_of_ring reg.rings.of_feeders) (words_of_ring reg.rings.of_peers)
-      (words_of_ring reg.rings.of_own) heading_width (ring_of u * wide) (omega arith)
-      (ring_long u.slots (ring_of u) reg.rings.of_feeders ok.1.0) (ring_long u.slots (ring_of u) reg.rings.of_peers ok.1.1.0)
-      (ring_long u.slots (ring_of u) reg.rings.of_own ok.1.1.1))
+  abbrev C : List ℕ
+  C = words_of_ring reg.rings.of_own
+
+  a_long : length A ≡ ring_of u * wide
+  a_long = ring_long u.slots (ring_of u) reg.rings.of_feeders ok.1.0
+
+  b_long : length B ≡ ring_of u * wide
+  b_long = ring_long u.slots (ring_of u) reg.rings.of_peers ok.1.1.0
+
+  c_long : length C ≡ ring_of u * wide
+  c_long = ring_long u.slots (ring_of u) reg.rings.of_own ok.1.1.1
+
+  some : 0 < ring_of u * wide
+  some = mul-pos (ring_positive u) (omega arith)
+
+  rings_are : drop heading_width ws ≡ A ++ (B ++ C)
+  rings_are = let l = ok.0 in rw is (drop_at (encode_heading u (of_register reg).head) (A ++ (B ++ C)) heading_width (omega arith))
+
+  pub classes_shown : (head : ℕ → List ℕ → List ℕ) (f : List ℕ → List ℕ)
+      → register_shown head f wide (ring_of u) ws ≡ ring_shown head f wide A ++ (ring_shown head f wide B ++ ring_shown head f wide C)
+  unfolding register_shown
+  classes_shown head f = rw rings_are (shown_three wide (ring_of u) (omega arith) A B C a_long b_long c_long some (ring_shown head f wide))
+
+  pub classes_total : (f : List ℕ → ℕ) → total f wide (drop heading_width ws) ≡ total f wide A + (total f wide B + total f wide C)
+  classes_total f = rw rings_are (total_all wide (ring_of u) (omega arith) A B C a_long b_long c_long f)
 
   -- what is written
   pub register_is : register_words wide (ring_of u) ws ≡ dump_words reg
@@ -177,21 +178,13 @@ module _ (u : Usable) (reg : Register) (ok : (register_form u).Ok reg) (ws : Lis
   register_is =
       let a = ap (λ (l : List ℕ). get_or l 8 0) is in
       let b = ap (λ (l : List ℕ). get_or l 9 0) is in
-      rw (
-        a,
-        b,
-        floor_is reg.floor,
-        feeders,
-        peers,
-        own,
-        ring_is u.slots (ring_of u) reg.rings.of_feeders ok.1.0,
-        ring_is u.slots (ring_of u)
-            reg.rings.of_peers ok.1.1.0,
-        ring_is u.slots (ring_of u) reg.rings.of_own ok.1.1.1,
-      )
+      let x = ring_is u.slots (ring_of u) reg.rings.of_feeders ok.1.0 in
+      let y = ring_is u.slots (ring_of u) reg.rings.of_peers ok.1.1.0 in
+      let z = ring_is u.slots (ring_of u) reg.rings.of_own ok.1.1.1 in
+      rw (a, b, floor_is reg.floor, classes_shown count_before part_words) (λ i. dumped_floor reg.floor ∷ x i ++ (y i ++ z i))
 
   -- how many bytes it has
-  pub register_counted : register_long wide (ring_of u) ws ≡ length (dump_bytes reg)
+  pub register_counted : register_long wide ws ≡ length (dump_bytes reg)
   unfolding register_long dump_bytes dump_words
   register_counted =
       let a = ring_counted u.slots (ring_of u) reg.rings.of_feeders ok.1.0 in
@@ -199,7 +192,7 @@ module _ (u : Usable) (reg : Register) (ok : (register_form u).Ok reg) (ws : Lis
       let c = ring_counted u.slots (ring_of u) reg.rings.of_own ok.1.1.1 in
       let l = length-append (class_words reg.rings.of_feeders) (class_words reg.rings.of_peers ++ class_words reg.rings.of_own) in
       let m = length-append (class_words reg.rings.of_peers) (class_words reg.rings.of_own) in
-      rw (feeders, peers, own, bytes_long (dump_words reg)) (omega arith)
+      rw (classes_total part_length, bytes_long (dump_words reg)) (omega arith)
 
   -- the output after a dump
   pub dumped : {out after : List ℕ} {r : ℕ} → Puts 0 (register_words wide (ring_of u) ws) out after r
@@ -220,25 +213,22 @@ module _ (u : Usable) (reg : Register) (ok : (register_form u).Ok reg) (ws : Lis
   -- that the code may go over it
   pub laid_out : u.slots ≤ 1_024 → ring_of u ≤ 256 → LaidOut wide (ring_of u) ws
   laid_out small few =
-      let a = words_of_ring reg.rings.of_feeders in
-      let b = words_of_ring reg.rings.of_peers in
-      let c = words_of_ring reg.rings.of_own in
-      let x = ring_long u.slots (ring_of u) reg.rings.of_feeders ok.1.0 in
-      let y = ring_long u.slots (ring_of u) reg.rings.of_peers ok.1.1.0 in
-      let z = ring_long u.slots (ring_of u) reg.rings.of_own ok.1.1.1 in
-      let s = ok.0 in
-      let l = length-append a (b ++ c) in
-      let m = length-append b c in
-      let t = length-append reg.spare (a ++ (b ++ c)) in
-      let h : length ws ≡ heading_width + 3 * (ring_of u * wide) = rw is (omega arith) in
-      let most : wide ≤ generation_most = omega arith in
+      let l = ok.0 in
+      let h = length-append (encode_heading u (of_register reg).head) (A ++ (B ++ C)) in
+      let x = ring_laid u.slots (ring_of u) reg.rings.of_feeders ok.1.0 small few in
+      let y = ring_laid u.slots (ring_of u) reg.rings.of_peers ok.1.1.0 small few in
+      let z = ring_laid u.slots (ring_of u) reg.rings.of_own ok.1.1.1 small few in
+      let c = count_all wide (ring_of u) (omega arith) A B C a_long b_long c_long in
       record {
-        wide = omega arith;
-        narrow = most;
+        narrow = omega arith;
+        some = ring_positive u;
         few = few;
-        ring = omega (arith, mul-le-mul few most);
-        long = omega arith;
-        feeders = rw feeders (ring_laid u.slots (ring_of u) reg.rings.of_feeders ok.1.0 small few);
-        peers = rw peers (ring_laid u.slots (ring_of u) reg.rings.of_peers ok.1.1.0 small few);
-        own = rw own (ring_laid u.slots (ring_of u) reg.rings.of_own ok.1.1.1 small few);
+        heading = rw is (omega arith);
+        generations =
+            rw rings_are (record {
+              wide = omega arith;
+              few = omega arith;
+              bounded = each_all wide (ring_of u) (omega arith) A B C a_long b_long c_long Bounded x.bounded y.bounded z.bounded;
+            });
+        rings = rw rings_are (each_three wide (ring_of u) (omega arith) A B C a_long b_long c_long some (Laid wide) x y z);
       }

@@ -16,21 +16,7 @@ use Rattle.generation.proofs.Looking.{lent_slots}
 use Rattle.runs.specs.Over.{Fits, Puts}
 use Rattle.runs.proofs.Over.{Writes, fits_first, puts_none, writes_start, writes_on, writes_fits, writes_last}
 use Rattle.dump.specs.Bytes.{word_wide}
-use Rattle.dump.specs.Parts.{part_words, ring_words, count_before, floor_of, register_words, register_shown}
-
--- ---- put_print
-pub print_room : {k p : ℕ} (x : ℕ) {out : List ℕ} → (x ≡ 0 → ⊥) → Fits k p (fingerprints (x ∷ [])) out → Fits k p (x ∷ []) out
-unfolding fingerprints
-print_room x n f = rw (ne_eqb x 0 n) at f
-
-module _ {enc : ℕ → List ℕ} {k p : ℕ} (x : ℕ) where
-  pub print_none : (out : List ℕ) → x ≡ 0 → Puts enc k p (fingerprints (x ∷ [])) out out p
-  unfolding fingerprints
-  print_none out z = rw (eq-eqb x 0 z) (puts_none enc k p out)
-
-  pub print_one : {out after : List ℕ} {r : ℕ} → (x ≡ 0 → ⊥) → Puts enc k p (x ∷ []) out after r → Puts enc k p (fingerprints (x ∷ [])) out after r
-  unfolding fingerprints
-  print_one n d = rw (ne_eqb x 0 n) d
+use Rattle.dump.specs.Parts.{part_words, count_before, floor_of, register_words, register_shown}
 
 -- ---- put_generation
 module _ (enc : ℕ → List ℕ) {k : ℕ} (each : (n : ℕ) → length (enc n) ≡ k) (ws : List ℕ) (g : Leading) (l : Leads ws g) (p : ℕ) where
@@ -69,7 +55,7 @@ told None r e h = rw (sym e) h
 told (Some n) r e h = let t : r ≡ min (suc n) top64 = h ∙ omega arith in rw (sym e) t
 
 -- ---- put_dump: the floor, and then the three classes
-module _ (k n : ℕ) (ws : List ℕ) {out : List ℕ} (f : Fits 8 0 (register_words k n ws) out) where
+module _ (k n : ℕ) (ws : List ℕ) {p : ℕ} {out : List ℕ} (f : Fits 8 p (register_words k n ws) out) where
   abbrev told_floor : ℕ
   told_floor = floor_of (get_or ws 8 0) (get_or ws 9 0)
 
@@ -77,22 +63,22 @@ module _ (k n : ℕ) (ws : List ℕ) {out : List ℕ} (f : Fits 8 0 (register_wo
   classes = register_shown count_before part_words k n ws
 
   dump_split : register_words k n ws ≡ (told_floor ∷ []) ++ classes
-  unfolding register_words ring_words
+  unfolding register_words
   dump_split = refl
 
-  start : Writes word_bytes 8 0 ((told_floor ∷ []) ++ classes) out 0 (register_words k n ws) out
-  start = subst (λ (us : List ℕ). Writes word_bytes 8 0 us out 0 (register_words k n ws) out) dump_split (writes_start f)
+  start : Writes word_bytes 8 p ((told_floor ∷ []) ++ classes) out p (register_words k n ws) out
+  start = subst (λ (us : List ℕ). Writes word_bytes 8 p us out p (register_words k n ws) out) dump_split (writes_start f)
 
   module _ {m : ℕ} (e : m ≡ told_floor) where
-    pub floor_fits : Fits 8 0 (m ∷ []) out
+    pub floor_fits : Fits 8 p (m ∷ []) out
     floor_fits = rw e (writes_fits (told_floor ∷ []) classes start)
 
-    module _ {mid : List ℕ} {q : ℕ} (d : Puts word_bytes 8 0 (m ∷ []) out mid q) where
-      floor_on : Writes word_bytes 8 q classes mid 0 (register_words k n ws) out
+    module _ {mid : List ℕ} {q : ℕ} (d : Puts word_bytes 8 p (m ∷ []) out mid q) where
+      floor_on : Writes word_bytes 8 q classes mid p (register_words k n ws) out
       floor_on = writes_on word_wide (told_floor ∷ []) classes start (rw e at d)
 
       pub classes_fit : Fits 8 q classes mid
       classes_fit = record { room = floor_on.room }
 
-      pub dump_puts : {after : List ℕ} {r : ℕ} → Puts word_bytes 8 q classes mid after r → Puts word_bytes 8 0 (register_words k n ws) out after r
+      pub dump_puts : {after : List ℕ} {r : ℕ} → Puts word_bytes 8 q classes mid after r → Puts word_bytes 8 p (register_words k n ws) out after r
       dump_puts x = writes_last classes floor_on x

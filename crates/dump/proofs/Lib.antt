@@ -3,9 +3,9 @@ pub mod Reading
 pub mod Walking
 pub mod Passing
 pub mod Walks
-pub mod Writing
 pub mod Turns
-pub mod Showing
+pub mod Writing
+pub mod Joined
 pub mod Dumping
 pub mod Dumped
 pub mod Writes

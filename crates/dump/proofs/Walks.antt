@@ -1,18 +1,18 @@
 -- What a restore stands on after the lengths have been read: where each class starts and ends (`whole`), one generation after the
 -- other (`walk_next`, `walk_done`), and one fingerprint after the other (`prints_next`, `prints_end`).
-use Prim.Native.Nat.{ℕ, ◌+◌, ◌-◌, ◌/◌, ◌<◌, ◌≤◌}
+use Prim.Native.Nat.{ℕ, ◌+◌, ◌-◌, ◌*◌, ◌/◌, ◌<◌, ◌≤◌}
 use native.Mathlib.Numerals.{add-one}
 use native.Mathlib.Omega.{arith}
 use mathlib.Core.Path.{◌≡◌, refl, sym, ◌∙◌}
 use mathlib.Core.List.{List, [], ◌∷◌}
 use lib.Dec.{leb}
-use lib.ListN.{length, get_or, drop, length-drop, drop_of_length-le}
+use lib.ListN.{length, get_or, take, drop, length-drop, drop_of_length-le}
 use lib.Seq.{drop-cons, get_or-take, get_or-drop, length-take-le}
 use borrow.Author.Tests.{leb-true}
 use Rattle.std.specs.Prelude.{None, Some}
 use Rattle.runs.proofs.Cases.{by_test, no}
 use Rattle.model.specs.Dump.{words_of, read_dump}
-use Rattle.dump.specs.Walk.{length_at, dumped_at, next_at, dumped_from, end_from, class_end, peers_at, own_at, dump_end, lengths_of, Walks, Steps, ClassWalks, Whole}
+use Rattle.dump.specs.Walk.{next_at, dumped_from, end_from, class_end, peers_at, own_at, dump_end, lengths_of, Walks, Steps, ClassWalks, Whole}
 use Rattle.dump.proofs.Reading.{words_long}
 use Rattle.dump.proofs.Walking.{end_next, dumped_next, end_after, class_after, words_read}
 use Rattle.dump.proofs.Passing.{lengths_are}
@@ -70,21 +70,25 @@ module _ (bs : List ℕ) (p n e : ℕ) (w : Walks bs p n e) where
   unfolding dumped_from end_from
   walk_done z = let q = w.ends in (rw z, rw z at q)
 
--- ---- one fingerprint after the other
-module _ (bs : List ℕ) (p : ℕ) (inside : next_at (words_of bs) p ≤ length bs / 8) where
-  pub prints_long : length (dumped_at (words_of bs) p).prints ≡ length_at (words_of bs) p
+-- ---- one fingerprint after the other: n words from position p on
+module _ (bs : List ℕ) (p n : ℕ) (inside : p + n ≤ length bs / 8) where
+  abbrev prints : List ℕ
+  prints = take n (drop p (words_of bs))
+
+  prints_long : length prints ≡ n
   prints_long =
-      let ws = words_of bs in
       let l = words_long (length bs / 8) bs in
-      let d = length-drop (p + 3) ws in
-      length-take-le (length_at ws p) (drop (p + 3) ws) (omega arith)
+      let d = length-drop p (words_of bs) in
+      length-take-le n (drop p (words_of bs)) (omega arith)
 
-  pub prints_next : (k : ℕ) → k < length_at (words_of bs) p
-      → drop k (dumped_at (words_of bs) p).prints ≡ get_or (words_of bs) (p + 3 + k) 0 ∷ drop (k + 1) (dumped_at (words_of bs) p).prints
+  pub prints_next : (k : ℕ) → k < n → drop k (take n (drop p (words_of bs))) ≡ get_or (words_of bs) (p + k) 0 ∷ drop (k + 1) (take n (drop p (words_of bs)))
   prints_next k h =
-      let ws = words_of bs in
       let l = prints_long in
-      rw (drop-cons (dumped_at ws p).prints k 0 (omega arith), get_or-take (length_at ws p) (drop (p + 3) ws) k 0 h, get_or-drop (p + 3) ws k 0, add-one)
+      rw (drop-cons prints k 0 (omega arith), get_or-take n (drop p (words_of bs)) k 0 h, get_or-drop p (words_of bs) k 0, add-one)
 
-  pub prints_end : (k : ℕ) → length_at (words_of bs) p ≤ k → drop k (dumped_at (words_of bs) p).prints ≡ []
-  prints_end k h = let l = prints_long in drop_of_length-le (dumped_at (words_of bs) p).prints {i = k} (omega arith)
+  pub prints_end : (k : ℕ) → n ≤ k → drop k (take n (drop p (words_of bs))) ≡ []
+  prints_end k h = let l = prints_long in drop_of_length-le prints {i = k} (omega arith)
+
+-- the bytes bound how many there are
+pub within_bytes : (bs : List ℕ) (words : ℕ) → Whole bs words → 8 * words ≤ length bs
+within_bytes bs words w = let k = w.long in let i = w.own.walks.inside in omega arith

@@ -18,17 +18,19 @@ module _ (u : Usable) (ws : List ℕ) (w : RegisterWords u ws) where
   pub few : Few u
   few = usable_few u w.fit
 
-  module _ {k n : ℕ} (e : k ≡ generation_width u.slots) (r : n ≡ ring_of u) where
-    pub may_walk : LaidOut k n ws
-    may_walk = rw (e, r) (laid_out u w.is.value w.is.ok ws w.is.words few.slots few.ring)
+  pub may_walk : {S n : ℕ} → S ≡ u.slots → n ≡ ring_of u → LaidOut (generation_width S) n ws
+  may_walk e r = rw (e, r) (laid_out u w.is.value w.is.ok ws w.is.words few.slots few.ring)
 
-    pub counted : {m : ℕ} → m ≡ register_long k n ws → RegisterReads u (λ reg. length (dump_bytes reg)) ws m
-    counted x = record { says = λ reg ok is. (rw (e, r) at x) ∙ register_counted u reg ok ws is }
+  -- as its rings are lent
+  module _ {S n : ℕ} {lent : List ℕ} (l : lent ≡ ws) (e : S ≡ u.slots) (r : n ≡ ring_of u) where
+    pub counted : {m : ℕ} → m ≡ register_long (generation_width S) lent → RegisterReads u (λ reg. length (dump_bytes reg)) ws m
+    counted x = record { says = λ reg ok is. (rw (l, e) at x) ∙ register_counted u reg ok ws is }
 
-    pub has_room : {out : List ℕ} → Holds dump_bytes u ws out → Fits 0 (register_words k n ws) out
-    has_room h = rw (e, r) (room_for u w.is.value w.is.ok ws w.is.words (h.room w.is.value w.is.ok w.is.words))
+    pub has_room : {out : List ℕ} → Holds dump_bytes u ws out → Fits 0 (register_words (generation_width S) n lent) out
+    has_room h = rw (l, e, r) (room_for u w.is.value w.is.ok ws w.is.words (h.room w.is.value w.is.ok w.is.words))
 
-    pub wrote : {out after : List ℕ} {m : ℕ} → Puts 0 (register_words k n ws) out after m → Outputs dump_bytes u ws out after m
-    wrote p =
-        let q = rw (e, r) at p in
+    pub wrote : {out mid after : List ℕ} {m : ℕ} → Puts 0 (register_words (generation_width S) n lent) out mid m → after ≡ mid
+        → Outputs dump_bytes u ws out after m
+    wrote p same =
+        let q = rw (l, e, r, ← same) at p in
         record { out = record { says = λ reg ok is. (dumped u reg ok ws is q).0 }; count = record { says = λ reg ok is. (dumped u reg ok ws is q).1 } }

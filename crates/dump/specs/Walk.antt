@@ -1,7 +1,8 @@
 -- A dump by the positions of its words. The model reads a dump from the front and hands on what is left; code has a position in
 -- the bytes. Here is what lies at a position, said of any words: past their end they read as 0, so that a walk comes to an end
 -- past the last word exactly when the model says that the dump is cut short.
-use Rattle.std.specs.Prelude.{ℕ, zero, suc, ◌+◌, ◌-◌, ◌/◌, ◌<◌, ◌≤◌, ◌≡◌, cond, Option, Some, None, List, [], ◌∷◌, leb, length, get_or, take, drop}
+use Rattle.std.specs.Prelude.{ℕ, zero, suc, ◌+◌, ◌-◌, ◌/◌, ◌<◌, ◌≤◌, ◌≡◌, Option, Some, None, List, [], ◌∷◌, length, get_or, take, drop}
+use Rattle.std.specs.Option.{MatchOption}
 use Rattle.model.specs.Dump.{Dumped, Dump, words_of, read_dump}
 use Rattle.dump.specs.declared.walk.Found.{Found}
 
@@ -55,9 +56,9 @@ dump_at ws = record {
 }
 
 -- ---- what code answers
--- a walk that ends at position e of so many words: none where that is past them
-abbrev pub passed_to : ℕ → ℕ → Option ℕ
-passed_to e all = cond (leb e all) (Some e) None
+-- a walk that would end at position e of so many words: none where that is past them, and otherwise it is there
+pub record Passes (e all at : ℕ) (r : Option (Unit {0})) : Type 0 where
+  pub is : MatchOption r (all < e) (λ x. (at ≡ e) × (e ≤ all))
 
 -- how many words a dump has, and none where it is cut short
 abbrev pub lengths_of : Option Dump → Option ℕ
@@ -68,7 +69,6 @@ pub record FoundAt (ws : List ℕ) (p : ℕ) (f : Found) : Type 0 where
   pub bucket : f.bucket.0 ≡ (dumped_at ws p).bucket
   pub newest : f.newest ≡ (dumped_at ws p).newest
   pub length : f.length ≡ length_at ws p
-  pub next : f.next ≡ next_at ws p
 
 -- ---- what a loop over a dump's generations knows
 -- n generations lie within the bytes from word position p on, and e is the position after them

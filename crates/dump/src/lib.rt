@@ -9,8 +9,9 @@ mod reader;
 mod walk;
 mod write;
 
-pub use held::{Rings, Shape, Shown, held_in, put_rings, shape_of, split_rings};
+pub use held::{Generations, Rings, Shown};
 pub use octets::{put_word, word_at};
 pub use of_register::{dump, dump_length};
-pub use output::{Element, put_all};
-pub use walk::{Found, count_at, generation_at, print_at, read_lengths, told_floor};
+pub use output::{Element, Output};
+pub use reader::Reader;
+pub use walk::{Dump, Found, read_lengths};

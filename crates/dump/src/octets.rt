@@ -1,6 +1,6 @@
 // Numbers of 64 bits as bytes, the least first. How that is done is said here and nowhere else.
-ghost use Rattle.std.specs.Prelude.{◌≡◌, ◌+◌, ◌/◌, ◌*◌, ◌≤◌, ◌<◌, length, take, drop, get_or};
-ghost use Rattle.model.specs.Dump.{number_of, word_bytes, words_of};
+ghost use Rattle.std.specs.Prelude.{◌≡◌, ◌+◌, ◌≤◌, length, take, drop};
+ghost use Rattle.model.specs.Dump.{number_of, word_bytes};
 ghost use Rattle.runs.specs.Over.{written};
 
 // The number that lies at a byte position.
@@ -10,14 +10,6 @@ pub fn word_at(bytes: &[u8], at: usize) -> u64
 {
     let word = bytes[at..].first_chunk().unwrap();
     u64::from_le_bytes(*word)
-}
-
-// Word i of the bytes, where they are taken as words from their start.
-pub fn word(bytes: &[u8], i: usize) -> u64
-    requires { i < length bytes.now / 8 }
-    ensures { result ≡ get_or (words_of bytes.now) i 0 }
-{
-    word_at(bytes, 8 * i)
 }
 
 // Writes a number at a byte position.

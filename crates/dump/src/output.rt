@@ -1,7 +1,7 @@
-// What an output is made of: bytes, eight for each word, or words.
+// What an output is made of: bytes, eight for each word, or words. Words are written one after the other.
 ghost use Rattle.std.specs.Prelude.{◌≡◌, ℕ, List, [], ◌∷◌, length, refl};
 ghost use Rattle.runs.specs.Over.{Fits, Puts, itself};
-ghost use Rattle.model.specs.Dump.{word_bytes};
+ghost use Rattle.model.specs.Dump.{word_bytes, fingerprints};
 ghost use Rattle.dump.specs.Bytes.{word_wide};
 
 use crate::octets;
@@ -52,14 +52,45 @@ impl Element for u64 {
     ghost encoded_long = { λ n. refl };
 }
 
-// Words one after the other.
-pub fn put_all<E: Element>(out: &mut [E], at: usize, words: &[u64]) -> usize
-    requires { Fits E.width at words.now (E.numbers out.old) }
-    ensures { Puts E.encoded E.width at words.now (E.numbers out.old) (E.numbers out.new) result }
-{
-    let mut next = at;
-    for &word in words {
-        next = E::put(out, next, word);
+// The elements that are lent for an output, and the position of what is written next. What there is room for is asked at each call:
+// it is no ghost field, since the elements and the position change.
+#[derive(Drop)]
+pub struct Output<'a, E> {
+    pub out: &'a mut [E],
+    pub at: usize,
+}
+
+impl<E: Element> Output<'_, E> {
+    // Writes a word.
+    pub fn put(&mut self, word: u64)
+        requires { Fits E.width self.old.at (word ∷ []) (E.numbers self.old.out.now) }
+        ensures same { self.new.out.ghost_name ≡ self.old.out.ghost_name }
+        ensures puts { Puts E.encoded E.width self.old.at (word ∷ []) (E.numbers self.old.out.now) (E.numbers self.new.out.now) self.new.at }
+    {
+        self.at = E::put(self.out, self.at, word);
     }
-    next
+
+    // Writes words.
+    pub fn put_all(&mut self, words: &[u64])
+        requires { Fits E.width self.old.at words.now (E.numbers self.old.out.now) }
+        ensures same { self.new.out.ghost_name ≡ self.old.out.ghost_name }
+        ensures puts { Puts E.encoded E.width self.old.at words.now (E.numbers self.old.out.now) (E.numbers self.new.out.now) self.new.at }
+    {
+        for &word in words {
+            self.put(word);
+        }
+    }
+
+    // Writes the fingerprints of slots, in their order.
+    pub(crate) fn put_prints(&mut self, slots: &[u64])
+        requires { Fits E.width self.old.at (fingerprints slots.now) (E.numbers self.old.out.now) }
+        ensures same { self.new.out.ghost_name ≡ self.old.out.ghost_name }
+        ensures puts { Puts E.encoded E.width self.old.at (fingerprints slots.now) (E.numbers self.old.out.now) (E.numbers self.new.out.now) self.new.at }
+    {
+        for &slot in slots {
+            if slot != 0 {
+                self.put(slot);
+            }
+        }
+    }
 }

@@ -1,112 +1,111 @@
-// The walk over what a dump holds, by word positions: a floor, then for each class a count and so many generations, each of three
-// words (bucket, newest, length) and its fingerprints.
-ghost use Rattle.std.specs.Prelude.{◌≡◌, ◌+◌, ◌/◌, ◌≤◌, ◌<◌, length, get_or};
+// The walk over what a dump holds: a floor, then for each class a count and so many generations, each of three words (bucket,
+// newest, length) and its fingerprints.
+ghost use Rattle.std.specs.Option.{MatchOption};
+ghost use Rattle.std.specs.Prelude.{None, ◌≡◌, ◌+◌, ◌/◌, ◌≤◌, ◌<◌, length, get_or};
 ghost use Rattle.model.specs.Dump.{words_of, read_dump};
-ghost use Rattle.dump.specs.Walk.{told_by, passed_to, next_at, end_from, class_end, lengths_of, FoundAt};
+ghost use Rattle.dump.specs.Walk.{told_by, next_at, end_from, class_end, Passes, FoundAt, Whole};
 
-use crate::octets::word;
 use crate::reader::Reader;
 use model::Bucket;
 
-// What leads a generation in a dump, and the word position of the one after it.
+// What leads a generation in a dump: its fingerprints come next.
 #[derive(Clone, Copy)]
 pub struct Found {
     pub bucket: Bucket,
     pub newest: u64,
-    pub length: usize,
-    pub next: usize,
+    pub length: u64,
 }
 
-// ---- the first walk, which tells whether all that the lengths say is there
+// A dump whose lengths have been read: its bytes, which others may follow, and how many words it has.
+#[derive(Clone, Copy)]
+pub struct Dump<'a> {
+    pub bytes: &'a [u8],
+    pub words: usize,
+    pub ghost whole: { Whole bytes.now words },
+}
 
-// Passes the generation at a word position.
-fn pass_generation(bytes: &[u8], at: usize) -> Option<usize>
-    requires { at ≤ length bytes.now / 8 }
-    ensures { result ≡ passed_to (next_at (words_of bytes.now) at) (length bytes.now / 8) }
-{
-    let left = bytes.len() / 8 - at;
-    if left < 3 {
-        return None;
+impl<'a> Reader<'a> {
+    // Reads the floor, if there is one: the word that tells it is 0 where there is none, else one more than it.
+    #[tactic(auto, using(crate::proofs::Walking::told_is))]
+    pub fn told_floor(&mut self) -> Option<u64>
+        requires { self.old.at < length self.old.bytes.now / 8 }
+        ensures value { result ≡ told_by (get_or (words_of self.old.bytes.now) self.old.at 0) }
+        ensures same_bytes { self.new.bytes ≡ self.old.bytes }
+        ensures next { self.new.at ≡ self.old.at + 1 }
+    {
+        self.word().checked_sub(1)
     }
-    let long = word(bytes, at + 2);
-    if ((left - 3) as u64) < long {
-        return None;
+
+    // Reads what leads a generation.
+    pub fn generation(&mut self) -> Found
+        requires { self.old.at + 3 ≤ length self.old.bytes.now / 8 }
+        ensures found { FoundAt (words_of self.old.bytes.now) self.old.at result }
+        ensures same_bytes { self.new.bytes ≡ self.old.bytes }
+        ensures next { self.new.at ≡ self.old.at + 3 }
+    {
+        let bucket = Bucket(self.word());
+        let newest = self.word();
+        let length = self.word();
+        Found {
+            bucket,
+            newest,
+            length,
+        }
     }
-    Some(at + 3 + (long as usize))
-}
 
-// Passes n generations from a word position on.
-fn pass_generations(bytes: &[u8], from: usize, n: u64) -> Option<usize>
-    requires { from ≤ length bytes.now / 8 }
-    ensures { result ≡ passed_to (end_from (words_of bytes.now) from n) (length bytes.now / 8) }
-{
-    let mut at = from;
-    for _ in 0..n {
-        at = pass_generation(bytes, at)?;
+    // Passes a generation, if all that its length says is there.
+    fn pass_generation(&mut self) -> Option<()>
+        requires { self.old.at ≤ length self.old.bytes.now / 8 }
+        ensures same_bytes { self.new.bytes ≡ self.old.bytes }
+        ensures passes { Passes (next_at (words_of self.old.bytes.now) self.old.at) (length self.old.bytes.now / 8) self.new.at result }
+    {
+        if self.left() < 3 {
+            return None;
+        }
+        let found = self.generation();
+        if (self.left() as u64) < found.length {
+            return None;
+        }
+        self.skip(found.length);
+        Some(())
     }
-    Some(at)
-}
 
-// Passes a class: its count, and as many generations.
-fn pass_class(bytes: &[u8], from: usize) -> Option<usize>
-    ensures { result ≡ passed_to (class_end (words_of bytes.now) from) (length bytes.now / 8) }
-{
-    if bytes.len() / 8 <= from {
-        return None;
+    // Passes n generations.
+    fn pass_generations(&mut self, n: u64) -> Option<()>
+        requires { self.old.at ≤ length self.old.bytes.now / 8 }
+        ensures same_bytes { self.new.bytes ≡ self.old.bytes }
+        ensures passes { Passes (end_from (words_of self.old.bytes.now) self.old.at n) (length self.old.bytes.now / 8) self.new.at result }
+    {
+        for _ in 0..n {
+            self.pass_generation()?;
+        }
+        Some(())
     }
-    pass_generations(bytes, from + 1, word(bytes, from))
-}
 
-// Reads the lengths of a dump, of whatever bytes: how many words it has, and none where it is cut short. Bytes behind it are not
-// looked at.
-pub fn read_lengths(bytes: &[u8]) -> Option<usize>
-    ensures { result ≡ lengths_of (read_dump bytes.now) }
-{
-    let peers = pass_class(bytes, 1)?;
-    let own = pass_class(bytes, peers)?;
-    pass_class(bytes, own)
-}
-
-// ---- the second walk, after the lengths have been read
-
-// The floor, if there is one: the word that tells it is 0 where there is none, else one more than it.
-#[tactic(auto, using(crate::proofs::Walking::told_is))]
-pub fn told_floor(bytes: &[u8]) -> Option<u64>
-    requires { 0 < length bytes.now / 8 }
-    ensures { result ≡ told_by (get_or (words_of bytes.now) 0 0) }
-{
-    word(bytes, 0).checked_sub(1)
-}
-
-// How many generations the class at a word position has. The first of them is one word on.
-pub fn count_at(bytes: &[u8], at: usize) -> u64
-    requires { at < length bytes.now / 8 }
-    ensures { result ≡ get_or (words_of bytes.now) at 0 }
-{
-    word(bytes, at)
-}
-
-// The generation at a word position.
-pub fn generation_at(bytes: &[u8], at: usize) -> Found
-    requires { at + 3 + get_or (words_of bytes.now) (at + 2) 0 ≤ length bytes.now / 8 }
-    ensures { FoundAt (words_of bytes.now) at result }
-{
-    let mut reader = Reader { bytes, at };
-    let bucket = Bucket(reader.word());
-    let newest = reader.word();
-    let length = reader.word() as usize;
-    Found {
-        bucket,
-        newest,
-        length,
-        next: reader.at + length,
+    // Passes a class: its count, and as many generations.
+    fn pass_class(&mut self) -> Option<()>
+        ensures same_bytes { self.new.bytes ≡ self.old.bytes }
+        ensures passes { Passes (class_end (words_of self.old.bytes.now) self.old.at) (length self.old.bytes.now / 8) self.new.at result }
+    {
+        if self.left() == 0 {
+            return None;
+        }
+        let n = self.word();
+        self.pass_generations(n)
     }
 }
 
-// Fingerprint k of the generation at a word position.
-pub fn print_at(bytes: &[u8], at: usize, k: usize) -> u64
-    requires { at + 3 + k < length bytes.now / 8 }
-    ensures { result ≡ get_or (words_of bytes.now) (at + 3 + k) 0 }
+// Reads the lengths of a dump, of whatever bytes, and none where it is cut short. Bytes behind it are not looked at. Three calls and no
+// loop: the invariant of one would say how many classes are passed.
+pub fn read_lengths(bytes: &[u8]) -> Option<Dump<'_>>
+    ensures { MatchOption result (read_dump bytes.now ≡ None) (λ d. d.bytes.now ≡ bytes.now) }
 {
-    word(bytes, at + 3 + k)
+    let mut reader = Reader { bytes, at: 1 };
+    reader.pass_class()?; // feeders
+    reader.pass_class()?; // peers
+    reader.pass_class()?; // own
+    Some(Dump {
+        bytes,
+        words: reader.at,
+    })
 }

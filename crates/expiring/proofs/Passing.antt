@@ -1,18 +1,20 @@
 -- One class expired within the whole run, and the three of them one after the other.
-use Prim.Native.Nat.{ℕ, ◌+◌, ◌-◌, ◌≤◌, min}
+use Prim.Native.Nat.{ℕ, ◌+◌, ◌-◌, ◌<◌, ◌≤◌}
+use native.Mathlib.Numerals.{add-one}
 use native.Mathlib.Omega.{arith}
-use Rattle.std.specs.Int.{div_ceil}
 use mathlib.Core.Path.{◌≡◌, refl, ap, subst, ◌∙◌}
-use mathlib.Core.List.{List}
+use mathlib.Core.List.{List, [], ◌∷◌}
+use lib.ListN.{get_or, drop, drop_of_length-le}
+use lib.Seq.{drop-cons}
 use borrow.Rule.Slice.PartMut.{mid_of, put_mid}
 use Rattle.runs.proofs.Turns.{then}
 use Rattle.runs.specs.Turns.{silent}
 use Rattle.model.specs.declared.Class.{Class}
-use Rattle.model.specs.declared.Class.TheVariants.{Feeders, Peers, Own}
+use Rattle.model.specs.declared.Class.TheVariants.{Feeders}
 use Rattle.model.specs.declared.Settings.{Settings}
 use Rattle.model.specs.declared.Shares.{Shares}
 use Rattle.model.specs.Numbers.{top32, cap32, ceil}
-use Rattle.model.specs.Class.{pick}
+use Rattle.model.specs.Class.{classes, pick}
 use Rattle.model.specs.Book.{Book, Held, expire_class, expire}
 use Rattle.model.specs.BookWords.{class_form}
 use Rattle.model.specs.Words.{State, state_form, class_width, class_start}
@@ -37,13 +39,9 @@ book_expired_ok b c t low k ok =
     }
 
 -- a second that is capped
-pub second_low : (n t : ℕ) → t ≡ min n top32 → t ≤ top32
+pub second_low : (n t : ℕ) → t ≡ cap32 n → t ≤ top32
+unfolding cap32
 second_low n t capped = omega arith
-
--- a number of seconds, rounded up by the library as by the model
-rounded_up : (ms : ℕ) → div_ceil ms 1_000 ≡ ceil ms 1_000
-unfolding ceil
-rounded_up ms = omega arith
 
 module _ (s : Settings) where
   class_expired_ok : (c : Class) (t : ℕ) → t ≤ top32 → (x : State) → (state_form s).Ok x → (state_form s).Ok (class_expired c t x)
@@ -65,19 +63,42 @@ module _ (s : Settings) where
           all,
         )
 
-  -- ---- all three
-  module _ (ms least n t : ℕ) (up : n ≡ div_ceil least 1_000) (capped : t ≡ min n top32) where
-    abbrev three_expired : ℕ → State → State
-    three_expired t x = class_expired Own t (class_expired Peers t (class_expired Feeders t x))
+  -- ---- all of them, one after the other
+  module _ (t : ℕ) (first : List ℕ) where
+    unfoldable pub expired_each : List Class → State → State
+    expired_each [] x = x
+    expired_each (c ∷ cs) x = expired_each cs (class_expired c t x)
 
-    -- three classes one after the other are all classes at once
-    three_are : (x : State) → least ≡ least_published s 0 x.registers ms → three_expired t x ≡ (step s (Expire ms) x).state
-    unfolding step expire class_expired cap32
-    three_are x is = ap (λ (m : ℕ). three_expired m x) (capped ∙ ap cap32 (up ∙ rounded_up least ∙ ap (λ (m : ℕ). ceil m 1_000) is))
+    -- those from an index on are left
+    pub record Expiring (i : ℕ) (ws : List ℕ) : Type 0 where
+      pub words : RunWords s ws
+      pub left : (last : List ℕ) → StateTurns s (expired_each (drop i classes)) silent ws last (tt {0})
+          → StateTurns s (expired_each classes) silent first last (tt {0})
 
-    pub all_done : (ws one two last : List ℕ) → StateReads s (λ x. least_published s 0 x.registers ms) ws least
-        → StateTurns s (class_expired Feeders t) silent ws one (tt {0}) → StateTurns s (class_expired Peers t) silent one two (tt {0})
-        → StateTurns s (class_expired Own t) silent two last (tt {0}) → StateTurns s (λ x. (step s (Expire ms) x).state) silent ws last (tt {0})
-    all_done ws one two last reads feeders peers own =
-        let all = then (class_expired_ok Feeders t (second_low n t capped)) feeders (then (class_expired_ok Peers t (second_low n t capped)) peers own) in
-        record { does = λ x ok is. ((all.does x ok is).0 ∙ ap (state_form s).enc (three_are x (reads.says x ok is)), refl) }
+    pub expiring_start : RunWords s first → Expiring 0 first
+    expiring_start w = record { words = w; left = λ last turn. turn }
+
+    pub expiring_on : t ≤ top32 → (i : ℕ) (ws next : List ℕ) → Expiring i ws → i < 3
+        → RunWords s next × StateTurns s (class_expired (get_or classes i Feeders) t) silent ws next (tt {0}) → Expiring (i + 1) next
+    unfolding expired_each
+    expiring_on low i ws next at h done = record {
+      words = done.0;
+      left = λ last turn.
+          let both = then (class_expired_ok (get_or classes i Feeders) t low) done.1 (rw add-one at turn) in
+          at.left last (rw (drop-cons classes i Feeders h) both);
+    }
+
+    -- one after the other they are all at once
+    all_are : (x : State) (ms least : ℕ) → t ≡ cap32 (ceil least 1_000) → least ≡ least_published s 0 x.registers ms
+        → expired_each classes x ≡ (step s (Expire ms) x).state
+    unfolding step expire class_expired expired_each
+    all_are x ms least second is = ap (λ (m : ℕ). expired_each classes x) second ∙ rw (second, is) refl
+
+    pub expiring_end : (i : ℕ) (ws : List ℕ) → Expiring i ws → 3 ≤ i → (ms least : ℕ) → t ≡ cap32 (ceil least 1_000)
+        → StateReads s (λ x. least_published s 0 x.registers ms) first least → StateTurns s (λ x. (step s (Expire ms) x).state) silent first ws (tt {0})
+    unfolding expired_each
+    expiring_end i ws at h ms least second reads =
+        let none : StateTurns s (expired_each (drop i classes)) silent ws ws (tt {0}) =
+        rw (drop_of_length-le classes {i = i} h) (record { does = λ x ok is. (is, refl) }) in
+        let all = at.left ws none in
+        record { does = λ x ok is. ((all.does x ok is).0 ∙ ap (state_form s).enc (all_are x ms least second (reads.says x ok is)), refl) }

@@ -13,8 +13,7 @@ fn published(run: &[u64], s: Settings, r: usize) -> Judged
     requires { RunWords s run.now × (r < s.registers) }
     ensures { StateReads s (λ t. published_for (usable_at s r) (register_at r t).swept) run.now result.0 }
 {
-    let extent = starts::register_extent(s, r);
-    register::heading::published_sweep(&run[extent.start..extent.end])
+    register::heading::published_sweep(&run[starts::register_extent(s, r).words()])
 }
 
 // The least of a reading and what each register publishes.

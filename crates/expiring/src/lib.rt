@@ -1,4 +1,5 @@
-// Expiry: what the clock has passed is given back to its deliverers, in the whole run of words that the settings need.
+// Expiry: what the clock has passed is given back to its deliverers, in the whole run of words that the settings need. `RunWords` is a fact
+// in contracts here as in taking, whose functions this calls.
 #![tactic(auto)]
 
 mod least;
@@ -11,16 +12,14 @@ ghost use Rattle.taking.specs.Words.{RunWords, StateTurns};
 ghost use Rattle.expiring.specs.Rules.{class_expired};
 
 use model::{Class, Judged, Second, Settings};
-use numbers::{capped, starts};
+use numbers::starts;
 
 // One class, up to a second.
 fn expire_class(run: &mut [u64], s: Settings, class: Class, t: Second)
     requires { RunWords s run.old × (t.0 ≤ top32) }
     ensures { RunWords s run.new × StateTurns s (class_expired class t.0) silent run.old run.new (tt {0}) }
 {
-    let a = starts::class_start(s, class);
-    let e = a + starts::class_width(s.shares);
-    book_expiry::expire(&mut run[a..e], s.shares, class, t);
+    book_expiry::expire(&mut run[starts::class_extent(s, class)], s.shares, class, t);
 }
 
 // All three classes, up to the least of the reading and every register's published sweep, in seconds rounded up.
@@ -29,8 +28,8 @@ pub fn expire(run: &mut [u64], s: Settings, reading: Judged)
     ensures { StateTurns s (λ t. (step s (Expire reading.0) t).state) silent run.old run.new (tt {0}) }
 {
     let least = least::least_published(run, s, reading);
-    let t = Second(least.0.div_ceil(1000).min(capped::TOP32));
-    expire_class(run, s, Class::Feeders, t);
-    expire_class(run, s, Class::Peers, t);
-    expire_class(run, s, Class::Own, t);
+    let t = Second::from(least);
+    for class in Class::ALL {
+        expire_class(run, s, class, t);
+    }
 }

@@ -67,9 +67,6 @@ module _ (n i j : ℕ) (hi : i < n) (hj : j < n) where
 
 -- ---- the run of held slots before a slot
 module _ (s : List ℕ) where
-  pub run_start : Run s 0 0 0
-  run_start = record { few = omega arith; held = λ t p q l z. omega arith; gap = λ p l. absurd (omega arith) }
-
   -- the first slot was the first to be looked at; now it comes after the last
   pub run_round : (r : ℕ) → Run s 0 r (length s) → Run s (length s) r 0
   run_round r w =

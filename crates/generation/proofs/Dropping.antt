@@ -2,7 +2,7 @@
 use Prim.Native.Nat.{ℕ, ◌+◌, ◌-◌, ◌<◌, ◌≤◌}
 use native.Mathlib.Omega.{arith}
 use mathlib.Core.Path.{◌≡◌, sym, ◌∙◌, ap}
-use mathlib.Core.Bool.{true, false, not, ◌&&◌}
+use mathlib.Core.Bool.{not, ◌&&◌}
 use mathlib.Core.List.{List, []}
 use lib.ListN.{length, get_or, replicate, replicate-append-replicate}
 use lib.Dec.{eqb, ltb}
@@ -18,6 +18,7 @@ use Rattle.model.proofs.Growth.{ok_ways}
 use Rattle.model.proofs.GenerationWords.{rest_pad}
 use Rattle.generation.specs.declared.Generation.{Generation as Leading}
 use Rattle.std.specs.Prelude.{Option, Some, None}
+use Rattle.std.specs.Bool.{then_some}
 use Rattle.generation.specs.Rules.{drop_says, dropped_in, drop_in_says, swept_at, sweep_says}
 use Rattle.generation.specs.Words.{Leads, led_by, GenerationReads, GenerationTurns}
 use Rattle.generation.proofs.Looking.{lent_slots, with_lent, slots_part}
@@ -97,8 +98,11 @@ module _ (ws : List ℕ) (through : ℕ) (h : Leading) (leads : Leads ws h) wher
   unfolding passed
   passed_is S g is = rw (leads.bucket, leads.held, is)
 
-  pub passed_newest : (ltb h.bucket through && not (eqb h.held 0)) ≡ true → GenerationReads (λ S. sweep_says through) ws (Some h.newest)
-  passed_newest t S n i = record { says = λ g ok is. rw (← passed_is S g is, t, leads.newest, is) }
-
-  pub passed_nothing : (ltb h.bucket through && not (eqb h.held 0)) ≡ false → GenerationReads (λ S. sweep_says through) ws None
-  passed_nothing t S n i = record { says = λ g ok is. rw (← passed_is S g is, t) }
+  pub passed_told : (r : Option ℕ) → r ≡ then_some (ltb h.bucket through && not (eqb h.held 0)) h.newest
+      → GenerationReads (λ S. sweep_says through) ws r
+  passed_told r e S n i = record {
+    says = λ g ok is.
+        let k = passed_is S g is in
+        let m : h.newest ≡ g.newest = leads.newest ∙ ap (λ (l : List ℕ). get_or l 2 0) is in
+        e ∙ by_test (passed through g) (λ t. rw (k, t, m)) (λ t. rw (k, t));
+  }

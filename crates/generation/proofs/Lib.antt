@@ -1,5 +1,6 @@
 pub mod Masking
 pub mod Doubling
+pub mod Rounds
 pub mod Putting
 pub mod Reaching
 pub mod Crowding

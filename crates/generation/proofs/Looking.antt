@@ -22,8 +22,8 @@ use Rattle.model.proofs.Growth.{ok_found}
 use Rattle.model.proofs.RingsKept.{room_told}
 use Rattle.model.proofs.GenerationWords.{generation_wide, live_pad, generation_exact}
 use Rattle.generation.specs.Slots.{slots_after}
-use Rattle.generation.specs.Rules.{holds_in, room_in}
-use Rattle.generation.specs.Words.{Bounded, Roomy, GenerationReads}
+use Rattle.generation.specs.Rules.{holds_in, room_in, room_for}
+use Rattle.generation.specs.Words.{Bounded, Roomy, RoomyFor, GenerationReads}
 use Rattle.generation.proofs.Doubling.{slots_are}
 
 -- the plain bounds of any well-formed generation's words
@@ -67,11 +67,18 @@ module _ (ws : List ℕ) where
     says = λ g ok is. (t S n i).says g ok is ∙ rw (eq-eqb g.bucket b (sym (ap (λ (l : List ℕ). get_or l 3 0) is) ∙ h));
   }
 
-  module _ (known : Bool) (b at : ℕ) where
-    pub room_collides : (not (eqb (get_or ws 3 0) b) && not (eqb (get_or ws 1 0) 0)) ≡ true → GenerationReads (room_in known b at) ws Collides
-    unfolding collides
-    room_collides t S n i = record { says = λ g ok is. let e = rw is at t in rw e }
+  pub room_collides : (fp b at : ℕ) → (not (eqb (get_or ws 3 0) b) && not (eqb (get_or ws 1 0) 0)) ≡ true
+      → GenerationReads (room_for fp b at) ws Collides
+  unfolding collides
+  room_collides fp b at t S n i = record { says = λ g ok is. let e = rw is at t in rw e }
 
+  pub room_is : (fp b at : ℕ) (known : Bool) (r : Room) → GenerationReads (λ S g. among fp g.slots) ws known
+      → GenerationReads (room_in known b at) ws r → GenerationReads (room_for fp b at) ws r
+  room_is fp b at known r k t S n i = record {
+    says = λ g ok is. (t S n i).says g ok is ∙ ap (λ (x : Bool). room_in x b at S g) ((k S n i).says g ok is);
+  }
+
+  module _ (known : Bool) (b at : ℕ) where
     module _ (t : (not (eqb (get_or ws 3 0) b) && not (eqb (get_or ws 1 0) 0)) ≡ false) (wanted : ℕ)
         (w : wanted ≡ slots_after known (get_or ws 0 0) (get_or ws 1 0)) where
       room_said : (S : ℕ) (g : Generation) → ws ≡ encode_generation S g
@@ -100,9 +107,12 @@ module _ (S n i : ℕ) (small : S ≤ 1_024) (ws : List ℕ) (long : length ws �
   pub sound_bounded : Bounded ws
   sound_bounded = let b = (generation_exact S n i).back ws long sound in bounded S n i (read_generation ws) b.0 small ws b.1
 
-  pub found_roomy : (known : Bool) (b at : ℕ) (r : Room) {j : ℕ} → r ≡ At j → GenerationReads (room_in known b at) ws r → Roomy known ws
-  found_roomy known b at r told t =
-      let v = (generation_exact S n i).back ws long sound in
-      let g = read_generation ws in
-      let q = sym ((t S n i).says g v.0 v.1) ∙ told in
-      roomy S g known (room_told known b at S _ g q).fits ws v.1
+  pub found_roomy : (fp b at : ℕ) (r : Room) {j : ℕ} → r ≡ At j → GenerationReads (room_for fp b at) ws r → RoomyFor fp ws
+  found_roomy fp b at r told t = record {
+    room = λ known k.
+        let v = (generation_exact S n i).back ws long sound in
+        let g = read_generation ws in
+        let q = sym ((t S n i).says g v.0 v.1) ∙ told in
+        let e : known ≡ among fp g.slots = (k S n i).says g v.0 v.1 in
+        roomy S g known (rw e (room_told (among fp g.slots) b at S _ g q).fits) ws v.1;
+  }

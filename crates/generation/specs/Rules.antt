@@ -14,6 +14,10 @@ holds_in b fp g = eqb g.bucket b && among fp g.slots
 abbrev pub room_in : Bool → ℕ → ℕ → ℕ → Generation → Room
 room_in known b i most g = cond (collides b g) Collides (cond (leb (slots_for known g.slots) most) (At i) Full)
 
+-- the same for a fingerprint, which it may hold
+abbrev pub room_for : ℕ → ℕ → ℕ → ℕ → Generation → Room
+room_for fp b i most g = room_in (among fp g.slots) b i most g
+
 -- the two halves of an insertion: growth, and then the fingerprint with its bucket and stamp
 abbrev pub with_slots_for : Bool → Generation → Generation
 with_slots_for known g = record { bucket = g.bucket; oldest = g.oldest; newest = g.newest; slots = grown (slots_for known g.slots) g.slots }

@@ -2,7 +2,7 @@
 use Rattle.std.specs.Prelude.{ℕ, ◌≤◌, ◌≡◌, Bool, List, ◌∷◌, length, get_or, drop}
 use Rattle.runs.specs.Turns.{Reads, Turns}
 use Rattle.model.specs.Widths.{generation_head, generation_width}
-use Rattle.model.specs.Generation.{Generation}
+use Rattle.model.specs.Generation.{Generation, among}
 use Rattle.model.specs.GenerationWords.{encode_generation, GenerationOk}
 use Rattle.model.specs.Most.{generation_most}
 use Rattle.generation.specs.Slots.{slots_after}
@@ -44,3 +44,7 @@ GenerationTurns f out before after r = (S n i : ℕ) → Turns (encode_generatio
 -- the same of one whose slots only fit the run, as while it is being filled
 abbrev pub FittingTurns : {R : Type 0} → (Generation → Generation) → (Generation → R) → List ℕ → List ℕ → R → Type 0
 FittingTurns f out before after r = (S : ℕ) → Turns (encode_generation S) (λ g. length g.slots ≤ S) f out before after r
+
+-- there is room for a fingerprint, held already or not
+pub record RoomyFor (fp : ℕ) (ws : List ℕ) : Type 0 where
+  pub room : (known : Bool) → GenerationReads (λ S g. among fp g.slots) ws known → Roomy known ws

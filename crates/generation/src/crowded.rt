@@ -30,17 +30,14 @@ fn run_with(run: usize, word: u64) -> usize
 
 // How many of the last slots are held, one after the other.
 fn run_at_end(slots: &[u64]) -> usize
-    requires { length slots.now ≤ 1024 }
     ensures { Run slots.now 0 result (length slots.now) }
 {
-    let mut run = 0;
-    for word in slots {
-        run = run_with(run, *word);
-    }
-    run
+    slots.iter().rev().take_while(|word| **word != 0).count()
 }
 
-// Whether probing for each fingerprint passes held slots only before it comes to where it lies. Slot 0 comes after the last.
+// Whether probing for each fingerprint passes held slots only before it comes to where it lies. Slot 0 comes after the last. The answer
+// is kept to the end: sound slots are looked through to the end in any case. The run goes on from slot to slot: a chain with `all` would
+// need a closure that changes it.
 fn no_gaps(slots: &[u64]) -> bool
     requires { length slots.now ≤ 1024 }
     ensures { result ≡ unbroken slots.now }

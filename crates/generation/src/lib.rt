@@ -1,17 +1,19 @@
 // A generation: the fingerprints of one bucket, in its own run of words. Its head leads (slots, held, newest, bucket, oldest), then
-// come the slots: as many as the first word says are live, and the rest of the run is 0.
+// come the slots: as many as the first word says are live, and the rest of the run is 0. `Bounded` is a fact in contracts and no type:
+// half of the functions change the words, so a type would have to say it before and after each of them.
 #![tactic(auto)]
 
 ghost use Rattle.std.specs.Prelude.{◌≡◌, cond, ◌≤◌, ◌<◌, min, length, eqb};
 ghost use Rattle.runs.specs.Turns.{silent};
-ghost use Rattle.model.specs.Widths.{generation_head};
+ghost use Rattle.model.specs.Widths.{generation_head, generation_width};
 ghost use Rattle.model.specs.Generation.{among, insert, dropped};
-ghost use Rattle.generation.specs.Rules.{holds_in, room_in, with_slots_for, entered, drop_says, dropped_in, drop_in_says, swept_at, sweep_says};
-ghost use Rattle.generation.specs.Words.{Bounded, Roomy, Leads, led_by, opened, GenerationReads, GenerationTurns, FittingTurns};
+ghost use Rattle.generation.specs.Rules.{holds_in, room_for, with_slots_for, entered, drop_says, dropped_in, drop_in_says, swept_at, sweep_says};
+ghost use Rattle.generation.specs.Words.{Bounded, Roomy, RoomyFor, Leads, led_by, opened, GenerationReads, GenerationTurns, FittingTurns};
 
-use crate::slots::{put, regrow, slots_for};
-use model::{Bucket, Probe, Room};
+use crate::slots::{put, regrow};
+use model::{Bucket, Fingerprint, Probe, Room};
 use numbers::layout;
+use std::ops::Range;
 
 mod crowded;
 mod slots;
@@ -21,7 +23,7 @@ pub use slots::find;
 pub use sound::{is_sound, one_if_held};
 
 // The words that lead a generation's run.
-#[derive(Clone, Copy)]
+#[derive(Clone, Copy, Default)]
 pub struct Generation {
     // How many slots are live: 0, or a power of two.
     pub slots: u64,
@@ -52,17 +54,11 @@ impl Generation {
 
     pub const OLDEST: usize = 4;
 
-    // One that holds nothing yet.
+    // One that holds nothing yet. A rule of the project names this function.
     pub fn open() -> Generation
         ensures { result ≡ opened }
     {
-        Generation {
-            slots: 0,
-            held: 0,
-            newest: 0,
-            bucket: 0,
-            oldest: 0,
-        }
+        Generation::default()
     }
 
     // The one that leads a run.
@@ -94,34 +90,51 @@ impl Generation {
     }
 }
 
-// Whether a generation holds a fingerprint.
-pub fn contains(part: &[u64], fp: u64) -> bool
-    requires { (0 < fp) × Bounded part.now }
-    ensures { GenerationReads (λ S g. among fp g.slots) part.now result }
+// What is inserted: a fingerprint, under its bucket and its stamp.
+#[derive(Clone, Copy)]
+pub struct Entry {
+    pub bucket: Bucket,
+    pub fp: Fingerprint,
+    pub stamp: u64,
+}
+
+// Where the live slots lie in a run that has so many.
+fn live(slots: u64) -> Range<usize>
+    requires { slots ≤ 1024 }
+    ensures start { result.start ≡ generation_head }
+    ensures end { result.end ≡ generation_width slots }
 {
-    let end = part[Generation::SLOTS] as usize + Generation::HEAD;
-    matches!(find(&part[Generation::HEAD..end], fp), Probe::Held(_))
+    Generation::HEAD..slots as usize + Generation::HEAD
+}
+
+// Whether a generation holds a fingerprint.
+pub fn contains(part: &[u64], fp: Fingerprint) -> bool
+    requires { Bounded part.now }
+    ensures { GenerationReads (λ S g. among fp.word g.slots) part.now result }
+{
+    let slots = &part[live(part[Generation::SLOTS])];
+    matches!(find(slots, fp.word), Probe::Held(_))
 }
 
 // Whether it holds a fingerprint, and is of a bucket.
-pub fn contains_in(part: &[u64], bucket: Bucket, fp: u64) -> bool
-    requires { (0 < fp) × Bounded part.now }
-    ensures { GenerationReads (λ S. holds_in bucket.0 fp) part.now result }
+pub fn contains_in(part: &[u64], bucket: Bucket, fp: Fingerprint) -> bool
+    requires { Bounded part.now }
+    ensures { GenerationReads (λ S. holds_in bucket.0 fp.word) part.now result }
 {
     part[Generation::BUCKET] == bucket.0 && contains(part, fp)
 }
 
 // The room for one more fingerprint of a bucket in the generation at position `at`: that position, or what stands against it.
-// `known`: the fingerprint is held already.
-pub fn room(part: &[u64], at: usize, bucket: Bucket, known: bool) -> Room
+pub fn room(part: &[u64], at: usize, bucket: Bucket, fp: Fingerprint) -> Room
     requires { Bounded part.now }
-    ensures { GenerationReads (room_in known bucket.0 at) part.now result }
+    ensures { GenerationReads (room_for fp.word bucket.0 at) part.now result }
 {
     let most = (part.len() - Generation::HEAD) as u64;
-    if (part[Generation::BUCKET] != bucket.0) & (part[Generation::HELD] != 0) {
+    let head = Generation::of(part);
+    if (head.bucket != bucket.0) & (head.held != 0) {
         return Room::Collides;
     }
-    let wanted = slots_for(known, part[Generation::SLOTS], part[Generation::HELD]);
+    let wanted = head.slots_for(contains(part, fp));
     if wanted <= most {
         Room::At(at)
     } else {
@@ -134,9 +147,13 @@ fn grow(part: &mut [u64], known: bool)
     requires { Bounded part.old × Roomy known part.old }
     ensures { Bounded part.new × GenerationTurns (with_slots_for known) silent part.old part.new (tt {0}) }
 {
-    let n = part[Generation::SLOTS] as usize;
-    let wanted = slots_for(known, part[Generation::SLOTS], part[Generation::HELD]);
-    regrow(&mut part[Generation::HEAD..], n, wanted as usize);
+    let head = Generation::of(part);
+    let wanted = head.slots_for(known);
+    regrow(
+        &mut part[Generation::HEAD..],
+        head.slots as usize,
+        wanted as usize,
+    );
     part[Generation::SLOTS] = wanted;
 }
 
@@ -145,37 +162,36 @@ fn oldest_with(head: Generation, stamp: u64) -> u64
     ensures { result ≡ cond (eqb head.held 0) stamp (min head.oldest stamp) }
 {
     if head.held == 0 {
-        stamp
-    } else {
-        head.oldest.min(stamp)
+        return stamp;
     }
+    head.oldest.min(stamp)
 }
 
-// A fingerprint is entered under its bucket and its stamp.
-fn enter(part: &mut [u64], bucket: Bucket, fp: u64, stamp: u64)
-    requires { (0 < fp) × Bounded part.old }
-    ensures { FittingTurns (entered bucket.0 fp stamp) silent part.old part.new (tt {0}) }
+// Puts an entry, and the numbers that lead follow it.
+fn enter(part: &mut [u64], entry: Entry)
+    requires { Bounded part.old }
+    ensures { FittingTurns (entered entry.bucket.0 entry.fp.word entry.stamp) silent part.old part.new (tt {0}) }
 {
     let head = Generation::of(part);
-    let end = head.slots as usize + Generation::HEAD;
-    let added = put(&mut part[Generation::HEAD..end], fp);
+    let added = put(&mut part[live(head.slots)], entry.fp);
     let next = Generation {
         slots: head.slots,
         held: head.held + added,
-        newest: head.newest.max(stamp),
-        bucket: bucket.0,
-        oldest: oldest_with(head, stamp),
+        newest: head.newest.max(entry.stamp),
+        bucket: entry.bucket.0,
+        oldest: oldest_with(head, entry.stamp),
     };
     next.lead(part);
 }
 
-// A fingerprint is inserted. `known` says whether it is held already, and there must be room for it.
-pub fn insert(part: &mut [u64], known: bool, bucket: Bucket, fp: u64, stamp: u64)
-    requires { ((0 < fp) × GenerationReads (λ S g. among fp g.slots) part.old known) × (Bounded part.old × Roomy known part.old) }
-    ensures { GenerationTurns (insert bucket.0 fp stamp) silent part.old part.new (tt {0}) }
+// Inserts an entry. There must be room for it.
+pub fn insert(part: &mut [u64], entry: Entry)
+    requires { Bounded part.old × RoomyFor entry.fp.word part.old }
+    ensures { GenerationTurns (insert entry.bucket.0 entry.fp.word entry.stamp) silent part.old part.new (tt {0}) }
 {
+    let known = contains(part, entry.fp);
     grow(part, known);
-    enter(part, bucket, fp, stamp);
+    enter(part, entry);
 }
 
 // A generation is dropped: it holds nothing, and its bucket word stays. Answers the newest stamp that went, if any did.
@@ -187,8 +203,7 @@ pub fn drop_all(part: &mut [u64]) -> Option<u64>
     if head.held == 0 {
         return None;
     }
-    let end = head.slots as usize + Generation::HEAD;
-    part[Generation::HEAD..end].fill(0);
+    part[live(head.slots)].fill(0);
     let next = Generation {
         bucket: head.bucket,
         ..Generation::open()
@@ -223,14 +238,11 @@ pub fn sweep_one(part: &mut [u64], through: Bucket) -> Option<u64>
 }
 
 // The same with nothing dropped: the newest that would go.
+#[tactic(auto, using(crate::proofs::Dropping::passed_told))]
 pub fn newest_passed(part: &[u64], through: Bucket) -> Option<u64>
     requires { generation_head ≤ length part.now }
     ensures { GenerationReads (λ S. sweep_says through.0) part.now result }
 {
     let head = Generation::of(part);
-    if (head.bucket < through.0) & (head.held != 0) {
-        Some(head.newest)
-    } else {
-        None
-    }
+    ((head.bucket < through.0) & (head.held != 0)).then_some(head.newest)
 }

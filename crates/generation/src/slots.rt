@@ -1,11 +1,12 @@
 // The slots of a generation by themselves: each is a fingerprint, or 0 where it is empty.
 ghost use Rattle.std.specs.Prelude.{◌≡◌, false, ◌++◌, ◌+◌, ◌-◌, ◌*◌, ◌%◌, ◌≤◌, ◌<◌, length, take, drop, replicate};
 ghost use Rattle.std.specs.Int.Bits.{bit_and};
-ghost use Rattle.model.specs.Generation.{next, probe, refill, grown};
+ghost use Rattle.model.specs.Generation.{probe_from, probe, refill, grown};
 ghost use Rattle.generation.specs.Slots.{slots_after, put_again, Puts};
 
 use crate::Generation;
-use model::Probe;
+use model::{Fingerprint, Probe};
+use std::ops::Range;
 
 // The slot that probing starts at, the remainder, where slots are a power of two: a mask and no division.
 pub fn masked_slot(fp: u64, n: usize) -> usize
@@ -16,7 +17,7 @@ pub fn masked_slot(fp: u64, n: usize) -> usize
     (fp & last) as usize
 }
 
-// The same for any number of slots.
+// The same for any number of slots. The power of two is tested by the mask itself: the law of `masked_slot` is of this test.
 pub fn first_slot(fp: u64, n: usize) -> usize
     requires { 0 < n }
     ensures { result ≡ fp % n }
@@ -30,24 +31,12 @@ pub fn first_slot(fp: u64, n: usize) -> usize
     }
 }
 
-// The slot after i, round the end.
-pub fn next_slot(i: usize, n: usize) -> usize
-    requires { i < n }
-    ensures { result ≡ next n i }
+// Where probing for a fingerprint ends among the slots of a range.
+fn find_in(slots: &[u64], range: Range<usize>, fp: u64) -> Probe
+    requires { range.end ≤ length slots.now }
+    ensures { result ≡ probe_from slots.now fp (range.end - range.start) range.start }
 {
-    if i + 1 == n { 0 } else { i + 1 }
-}
-
-// Where probing for a fingerprint ends.
-pub fn find(slots: &[u64], fp: u64) -> Probe
-    ensures { result ≡ probe slots.now fp }
-{
-    let n = slots.len();
-    if n == 0 {
-        return Probe::Nowhere;
-    }
-    let mut i = first_slot(fp, n);
-    for _ in 0..n {
+    for i in range {
         let word = slots[i];
         if word == fp {
             return Probe::Held(i);
@@ -55,18 +44,31 @@ pub fn find(slots: &[u64], fp: u64) -> Probe
         if word == 0 {
             return Probe::Free(i);
         }
-        i = next_slot(i, n);
     }
     Probe::Nowhere
 }
 
-// Puts a fingerprint where probing for it ends at an empty slot. Answers how many that adds to those held.
-pub fn put(slots: &mut [u64], fp: u64) -> u64
-    requires { 0 < fp }
-    ensures { Puts fp slots.old slots.new result }
+// Where probing for a fingerprint ends: from the slot that it starts at up to the last, and then from slot 0 on.
+pub fn find(slots: &[u64], fp: u64) -> Probe
+    ensures { result ≡ probe slots.now fp }
 {
-    if let Probe::Free(i) = find(slots, fp) {
-        slots[i] = fp;
+    let n = slots.len();
+    if n == 0 {
+        return Probe::Nowhere;
+    }
+    let first = first_slot(fp, n);
+    match find_in(slots, first..n, fp) {
+        Probe::Nowhere => find_in(slots, 0..first, fp),
+        end => end,
+    }
+}
+
+// Puts a fingerprint where probing for it ends at an empty slot. Answers how many that adds to those held.
+pub fn put(slots: &mut [u64], fp: Fingerprint) -> u64
+    ensures { Puts fp.word slots.old slots.new result }
+{
+    if let Probe::Free(i) = find(slots, fp.word) {
+        slots[i] = fp.word;
         1
     } else {
         0
@@ -78,7 +80,7 @@ fn put_again(slots: &mut [u64], word: u64)
     ensures { slots.new ≡ put_again slots.old word }
 {
     if word != 0 {
-        put(slots, word);
+        put(slots, Fingerprint { word });
     }
 }
 
@@ -134,30 +136,32 @@ pub fn regrow(slots: &mut [u64], n: usize, wanted: usize)
     }
 }
 
-// The slots that there are once a new fingerprint is inserted: doubled from the present number until those held and it are at most
-// three quarters.
-fn doubled_slots(slots: u64, held: u64) -> u64
-    requires { (slots ≤ 1024) × (held ≤ 1024) }
-    ensures { result ≡ slots_after false slots held }
-{
-    let most = 4 * (held + 1);
-    // Doubling goes on from the present number, which need be no power of two: so no method for powers of two says this.
-    let mut n = slots.max(Generation::LEAST);
-    while 3 * n < most {
-        n = 2 * n;
+impl Generation {
+    // The slots that there are once a new fingerprint is inserted: doubled from the present number until those held and it are at most
+    // three quarters.
+    fn doubled_slots(self) -> u64
+        requires { (self.slots ≤ 1024) × (self.held ≤ 1024) }
+        ensures { result ≡ slots_after false self.slots self.held }
+    {
+        let most = 4 * (self.held + 1);
+        // Doubling goes on from the present number, which need be no power of two: so no method for powers of two says this.
+        let mut n = self.slots.max(Generation::LEAST);
+        while 3 * n < most {
+            n = 2 * n;
+        }
+        n
     }
-    n
-}
 
-// The slots that there are once a fingerprint is inserted. `known`: it is held already, and there are as many as before.
-#[tactic(auto, unfolding(crate::specs::Slots::slots_after))]
-pub fn slots_for(known: bool, slots: u64, held: u64) -> u64
-    requires { (slots ≤ 1024) × (held ≤ 1024) }
-    ensures { result ≡ slots_after known slots held }
-{
-    if known {
-        slots
-    } else {
-        doubled_slots(slots, held)
+    // The slots that there are once a fingerprint is inserted. `known`: it is held already, and there are as many as before.
+    #[tactic(auto, unfolding(crate::specs::Slots::slots_after))]
+    pub(crate) fn slots_for(self, known: bool) -> u64
+        requires { (self.slots ≤ 1024) × (self.held ≤ 1024) }
+        ensures { result ≡ slots_after known self.slots self.held }
+    {
+        if known {
+            self.slots
+        } else {
+            self.doubled_slots()
+        }
     }
 }

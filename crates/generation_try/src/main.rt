@@ -4,9 +4,12 @@
 // is room, unlike for a seventh. Then 128 slots of which 95 are held, by fingerprints that all start at one slot.
 #![tactic(auto)]
 
-ghost use Rattle.std.specs.Prelude.{◌<◌};
+ghost use Rattle.std.specs.Prelude.{◌≡◌, true, ◌<◌, length};
+ghost use Rattle.model.specs.Widths.{generation_width};
+ghost use Rattle.model.specs.GenerationWords.{generation_sound};
 
-use model::{Bucket, Room};
+use generation::{Entry, Generation};
+use model::{Bucket, Fingerprint, Room};
 use numbers::layout;
 use std::io;
 
@@ -15,7 +18,8 @@ const FEW: usize = 8 + layout::GENERATION_HEAD;
 
 const MANY: usize = 128 + layout::GENERATION_HEAD;
 
-// The answer's code, then the words. ring_try has these lines too: no crate that both use prints, and one for them would be longer.
+// The answer's number, then the words. ring_try has this, `number`, `show_strike` and `show_sweep` too: no crate that both use prints, and one
+// for them would be longer.
 fn show(rt: &impl Print, says: u64, part: &[u64]) -> io::Result<()> {
     print!(rt; "{says}:")?;
     for word in part {
@@ -24,36 +28,59 @@ fn show(rt: &impl Print, says: u64, part: &[u64]) -> io::Result<()> {
     println!(rt; "")
 }
 
-// Inserts a fingerprint: 1 where it did, 2 where another bucket is held, 3 where there is no room, and 0 for unsound words.
-fn strike(part: &mut [u64], bucket: Bucket, fp: u64, stamp: u64) -> u64
-    requires { 0 < fp }
+// Whether these are the words of a well-formed generation of at most 8 slots.
+fn is_generation(part: &[u64]) -> bool
+    ensures { result ≡ true → (length part.now ≡ generation_width 8) × (generation_sound 24 0 part.now ≡ true) }
 {
-    if part.len() != FEW {
-        return 0;
+    part.len() == FEW && generation::is_sound(part, 24, 0)
+}
+
+// Inserts a fingerprint if there is room. Answers the room that was found, and none for unsound words.
+fn strike(part: &mut [u64], bucket: Bucket, fp: Fingerprint, stamp: u64) -> Option<Room> {
+    if !is_generation(part) {
+        return None;
     }
-    if !generation::is_sound(part, 24, 0) {
-        return 0;
+    let room = generation::room(part, 0, bucket, fp);
+    if let Room::At(_) = room {
+        generation::insert(part, Entry { bucket, fp, stamp });
     }
-    let known = generation::contains(part, fp);
-    match generation::room(part, 0, bucket, known) {
-        Room::Collides => 2,
-        Room::Full => 3,
-        Room::At(_) => {
-            generation::insert(part, known, bucket, fp, stamp);
-            1
-        }
+    Some(room)
+}
+
+// Drops the generation if a sweep passes it. Answers the newest that went, if any did; nothing goes of unsound words.
+fn sweep(part: &mut [u64], through: Bucket) -> Option<u64> {
+    if !is_generation(part) {
+        return None;
+    }
+    generation::sweep_one(part, through)
+}
+
+// 1 where a fingerprint was inserted, 2 where another bucket is held, 3 where there is no room, and 0 for unsound words.
+fn number(room: Option<Room>) -> u64 {
+    match room {
+        Some(Room::At(_)) => 1,
+        Some(Room::Collides) => 2,
+        Some(Room::Full) => 3,
+        None => 0,
     }
 }
 
-// Drops the generation if a sweep passes it: 0 where it did not, else the newest that went.
-fn sweep(part: &mut [u64], through: Bucket) -> u64 {
-    if part.len() != FEW {
-        return 0;
-    }
-    if !generation::is_sound(part, 24, 0) {
-        return 0;
-    }
-    generation::sweep_one(part, through).unwrap_or(0)
+// Inserts a fingerprint, and prints what became of it.
+fn show_strike(
+    rt: &impl Print,
+    part: &mut [u64],
+    bucket: u64,
+    fp: u64,
+    stamp: u64,
+) -> io::Result<()> {
+    let room = strike(part, Bucket(bucket), Fingerprint::from(fp), stamp);
+    show(rt, number(room), part)
+}
+
+// Sweeps, and prints the newest that went, or 0.
+fn show_sweep(rt: &impl Print, part: &mut [u64], through: u64) -> io::Result<()> {
+    let went = sweep(part, Bucket(through));
+    show(rt, went.unwrap_or(0), part)
 }
 
 // 128 slots of bucket 120. The 95 from `first` on, round the end, are held, and probing for each fingerprint starts at `first`.
@@ -61,9 +88,9 @@ fn crowd(first: usize) -> [u64; MANY]
     requires { first < 128 }
 {
     let mut part = [0u64; MANY];
-    part[0] = 128;
-    part[2] = 100;
-    part[3] = 120;
+    part[Generation::SLOTS] = 128;
+    part[Generation::NEWEST] = 100;
+    part[Generation::BUCKET] = 120;
     for k in 0..95 {
         let at = (first + k) % 128 + layout::GENERATION_HEAD;
         part[at] = ((k + 1) * 128 + first) as u64;
@@ -71,20 +98,15 @@ fn crowd(first: usize) -> [u64; MANY]
     part
 }
 
-// 1 where they are sound, and else 0.
-fn sound(part: &[u64; MANY]) -> u64 {
-    u64::from(generation::is_sound(part, 24, 0))
-}
-
-// Prints whether they are sound with one slot changed and so many said to be held.
+// Prints 1 if they are sound, and else 0, with one slot changed and so many said to be held.
 fn show_crowd(rt: &impl Print, first: usize, at: usize, word: u64, held: u64) -> io::Result<()>
     requires { (first < 128) × (at < 128) }
 {
     let mut part = crowd(first);
     part[at + layout::GENERATION_HEAD] = word;
-    part[1] = held;
-    let says = sound(&part);
-    print!(rt; "{says} ")
+    part[Generation::HELD] = held;
+    let sound = generation::is_sound(&part, 24, 0);
+    print!(rt; "{} ", u64::from(sound))
 }
 
 // Those from `first` on, of which `next` is the slot behind the last, with a new fingerprint there, with one that is
@@ -103,33 +125,20 @@ fn show_crowds(rt: &impl Print, first: usize, next: usize, new: u64, known: u64)
 
 fn main(rt: HostRuntime) -> io::Result<()> {
     let mut part = [0u64; FEW];
-    let mut says = strike(&mut part, Bucket(120), 8, 100);
-    show(&rt, says, &part)?;
-    says = strike(&mut part, Bucket(120), 16, 90);
-    show(&rt, says, &part)?;
-    says = strike(&mut part, Bucket(120), 15, 110);
-    show(&rt, says, &part)?;
-    says = strike(&mut part, Bucket(120), 15, 120);
-    show(&rt, says, &part)?;
-    says = strike(&mut part, Bucket(120), 7, 105);
-    show(&rt, says, &part)?;
-    says = strike(&mut part, Bucket(96), 7, 105);
-    show(&rt, says, &part)?;
-    says = strike(&mut part, Bucket(120), 23, 105);
-    show(&rt, says, &part)?;
-    says = strike(&mut part, Bucket(120), 31, 105);
-    show(&rt, says, &part)?;
-    says = strike(&mut part, Bucket(120), 1, 105);
-    show(&rt, says, &part)?;
-    says = strike(&mut part, Bucket(120), 31, 130);
-    show(&rt, says, &part)?;
-    says = sweep(&mut part, Bucket(120));
-    show(&rt, says, &part)?;
-    says = sweep(&mut part, Bucket(121));
-    show(&rt, says, &part)?;
+    show_strike(&rt, &mut part, 120, 8, 100)?;
+    show_strike(&rt, &mut part, 120, 16, 90)?;
+    show_strike(&rt, &mut part, 120, 15, 110)?;
+    show_strike(&rt, &mut part, 120, 15, 120)?;
+    show_strike(&rt, &mut part, 120, 7, 105)?;
+    show_strike(&rt, &mut part, 96, 7, 105)?;
+    show_strike(&rt, &mut part, 120, 23, 105)?;
+    show_strike(&rt, &mut part, 120, 31, 105)?;
+    show_strike(&rt, &mut part, 120, 1, 105)?;
+    show_strike(&rt, &mut part, 120, 31, 130)?;
+    show_sweep(&rt, &mut part, 120)?;
+    show_sweep(&rt, &mut part, 121)?;
     part[layout::GENERATION_HEAD + 5] = 5;
-    says = strike(&mut part, Bucket(120), 5, 1);
-    show(&rt, says, &part)?;
+    show_strike(&rt, &mut part, 120, 5, 1)?;
     show_crowds(&rt, 0, 95, 131072, 128)?;
     show_crowds(&rt, 100, 67, 131172, 228)
 }

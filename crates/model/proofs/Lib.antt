@@ -77,3 +77,4 @@ pub mod ToldApart
 pub mod Smallest
 pub mod Reasons
 pub mod Explained
+pub mod Rounding

@@ -26,7 +26,7 @@ use Rattle.model.specs.Book.{draw_room, draw_limits, draw_test, granted, draw_sa
 use Rattle.model.specs.Register.{Ring, Register, generation_at, holds, sweep_rings, through_of, sweep}
 use Rattle.model.specs.Judge.{Ask, bucket_of, window_for, in_window, front_past, unjudged, verdict, judge, ahead_for, judge_batch}
 use Rattle.model.specs.Judge.{collides, make_room, take_room, take_share, take_judged, take, take_batch}
-use Rattle.model.specs.Codes.{reason_verdict}
+use Rattle.model.specs.Codes.{reason_verdict, room_reason}
 use Rattle.model.specs.Reason.{judge_rules, share_rules, room_rules, rules, first_rule, reason, batch_verdict}
 use Rattle.model.proofs.First.{first_after}
 use Rattle.model.proofs.Windows.{window_holds, new_inside}
@@ -92,11 +92,6 @@ draw_verdict Places x = refl
 draw_verdict Pairs x = refl
 
 -- ---- the rules of the ring: the first that is met is the one for which there is no room
-abbrev pub room_reason : Room → Reason
-room_reason (At i) = Reason.Accepted
-room_reason Collides = Reason.Position
-room_reason NoSlots = Reason.Slots
-
 pub room_first : (most bucket fp : ℕ) (ring : Ring) → first_of Reason.Accepted (room_rules most bucket fp ring) ≡ room_reason (make_room most bucket fp ring)
 unfolding first_of make_room
 room_first most bucket fp ring =

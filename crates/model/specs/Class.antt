@@ -1,9 +1,13 @@
 -- The three classes, the deliverers with their codes, and one thing of a kind for each class.
-use Rattle.std.specs.Prelude.{ℕ, Bool, true, false, cond, ◌&&◌, ◌||◌, eqb, leb}
+use Rattle.std.specs.Prelude.{ℕ, Bool, true, false, cond, ◌&&◌, ◌||◌, List, [], ◌∷◌, eqb, leb}
 use Rattle.model.specs.declared.Class.{Class}
 use Rattle.model.specs.declared.Class.TheVariants.{Feeders, Peers, Own}
 use Rattle.model.specs.declared.Deliverer.{Deliverer}
 use Rattle.model.specs.declared.Deliverer.TheVariants.{Feeder, Peer, Relay, Restored}
+
+-- all classes, in the order of their words and of a dump
+abbrev pub classes : List Class
+classes = Feeders ∷ Peers ∷ Own ∷ []
 
 -- ---- classes: 0 Feeders, 1 Peers, 2 Own
 unfoldable pub class_number : Class → ℕ

@@ -3,6 +3,7 @@ use Rattle.std.specs.Prelude.{ℕ, Bool, true, false, cond, List, [], ◌∷◌,
 use Rattle.model.specs.declared.Verdict.{Verdict}
 use Rattle.model.specs.declared.Verdict.TheVariants.{New, Duplicate, Late, Ahead, Full, Unjudged}
 use Rattle.model.specs.declared.Reason.{Reason}
+use Rattle.model.specs.declared.Room.{Room}
 use Rattle.model.specs.declared.Start.{Start}
 use Rattle.model.specs.declared.Start.TheVariants.{Empty, Fallback, At}
 use Rattle.model.specs.declared.Draw.{Draw}
@@ -102,6 +103,22 @@ reason_verdict Reason.Places = Full
 reason_verdict Reason.Pairs = Full
 reason_verdict Reason.Position = Late
 reason_verdict Reason.Slots = Full
+
+-- the rule by what the book says to a draw, and by the room that there is; accepted where nothing stands against the ticket
+abbrev pub draw_reason : Draw → Reason
+draw_reason Granted = Reason.Accepted
+draw_reason Closed = Reason.Closed
+draw_reason OwnShare = Reason.OwnShare
+draw_reason ClassLimit = Reason.ClassLimit
+draw_reason EqualPart = Reason.EqualPart
+draw_reason TwiceLimit = Reason.TwiceLimit
+draw_reason Places = Reason.Places
+draw_reason Pairs = Reason.Pairs
+
+abbrev pub room_reason : Room → Reason
+room_reason (Room.At i) = Reason.Accepted
+room_reason Room.Collides = Reason.Position
+room_reason Room.Full = Reason.Slots
 
 -- how an answer goes out, in one clause
 pub record Outgoing : Type 0 where

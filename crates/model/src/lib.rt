@@ -2,6 +2,8 @@
 // The rules stand in specs/, one file for each section of the scope paper, and what is proved of them in proofs/.
 #![tactic(auto)]
 
+ghost use Rattle.std.specs.Prelude.{◌<◌};
+
 mod codes;
 
 // A class of deliverers: each has places, limits and rings of its own.
@@ -10,6 +12,11 @@ pub enum Class {
     Feeders,
     Peers,
     Own,
+}
+
+impl Class {
+    // All classes, in the order of their words and of a dump.
+    pub const ALL: [Class; 3] = [Class::Feeders, Class::Peers, Class::Own];
 }
 
 // Who delivers a ticket. A restored deliverer carries the class that it is restored into.
@@ -21,7 +28,7 @@ pub enum Deliverer {
     Restored(Class),
 }
 
-// A deliverer as a host names it. The number is an id, or of a restored one the number of its class; that of a relay is not read.
+// A deliverer as a host names it: by numbers and no enum, as they lie in the lent words too. The number is an id, or of a restored one the number of its class; that of a relay is not read.
 #[derive(Clone, Copy, Debug, PartialEq, Eq)]
 pub struct DelivererCode {
     pub kind: u64,
@@ -142,27 +149,39 @@ pub enum Refusal {
     ViewTooShort,
 }
 
+// A fingerprint as it is read: never 0, since a slot of 0 is empty.
+#[derive(Clone, Copy, Debug, PartialEq, Eq)]
+pub struct Fingerprint {
+    pub word: u64,
+    pub ghost some: { 0 < word },
+}
+
 // Clock milliseconds.
 #[derive(Clone, Copy, Debug, PartialEq, Eq)]
 pub struct Judged(pub u64);
 
-// A second of the share book, a number of at most 32 bits.
+// A second of the share book, a number of at most 32 bits. A rule of the project names a tuple struct, which has no ghost field to say so.
 #[derive(Clone, Copy)]
 pub struct Second(pub u64);
+
+impl Second {
+    // The last second.
+    pub const LAST: u64 = u32::MAX as u64;
+}
 
 // A bucket number.
 #[derive(Clone, Copy, Debug, PartialEq, Eq)]
 pub struct Bucket(pub u64);
 
 // How far behind and ahead of a reading a stamp may lie, in milliseconds.
-#[derive(Clone, Copy, Debug, PartialEq, Eq)]
+#[derive(Clone, Copy, Debug, PartialEq, Eq, Default)]
 pub struct Window {
     pub behind: u64,
     pub ahead: u64,
 }
 
 // One register's settings.
-#[derive(Clone, Copy, Debug, PartialEq, Eq)]
+#[derive(Clone, Copy, Debug, PartialEq, Eq, Default)]
 pub struct Usable {
     // The window for Feeders.
     pub origin: Window,

@@ -56,7 +56,7 @@ pub ring_within : (u : Usable) (c : Class) → ring_start u c + ring_width u ≤
 ring_within u c = omega (arith, third c (ring_width u))
 
 -- ---- a register in the run
-register_is : (u : Usable) → register_width u ≡ 24 + register_words u
+pub register_is : (u : Usable) → register_width u ≡ 24 + register_words u
 unfolding register_words
 register_is u = let e = mul_assoc 3 (ring_of u) (generation_width u.slots) in omega arith
 

@@ -1,11 +1,11 @@
 // Settings and limits: read from the words that a host hands in, tested against their bounds, and the words that they need.
 ghost use Rattle.std.specs.List.{list_all};
 ghost use Rattle.std.specs.Prelude.{◌≡◌, true, ◌<◌, ◌≤◌, length};
-ghost use Rattle.model.specs.Settings.{usable_below as usable_read, no_usable as no_settings, settings_of as settings_in, limits_of as limits_in, usable_at, power_of_two, window_fit as window_within, usable_fit as usable_within, shares_fit as shares_within, limits_fit as limits_within, settings_fit as settings_within, register_words, book_words as places_words, words_needed as needed};
+ghost use Rattle.model.specs.Settings.{usable_below as usable_read, settings_of as settings_in, limits_of as limits_in, power_of_two, window_fit as window_within, usable_fit as usable_within, shares_fit as shares_within, limits_fit as limits_within, settings_fit as settings_within, register_words, book_words as places_words, words_needed as needed};
 ghost use Rattle.model.specs.Most.{rings_most, book_most};
 ghost use Rattle.numbers.specs.Readers.{usable_said, shares_said};
 
-use crate::{layout, spans, starts};
+use crate::{spans, starts};
 use model::{Limits, Settings, Shares, Usable, Window};
 
 // The words of settings, and of limits.
@@ -19,22 +19,6 @@ const MOST: u64 = 1_000_000;
 
 // The most entries of a place, and of a class.
 pub const MOST_ENTRIES: u64 = 2_000_000;
-
-// Settings of no register.
-pub fn no_usable() -> Usable
-    ensures { result ≡ no_settings }
-{
-    let none = Window {
-        behind: 0,
-        ahead: 0,
-    };
-    Usable {
-        origin: none,
-        copy: none,
-        bucket: 0,
-        slots: 0,
-    }
-}
 
 // The settings of a register, as six words say them: of settings, and at the start of the register's own words.
 pub fn usable_of(words: &[u64]) -> Usable
@@ -77,10 +61,12 @@ fn usable_below(st: &[u64], r: usize) -> Usable
     if (r as u64) < st[0] {
         usable_of(&st[5 + 6 * r..][..6])
     } else {
-        no_usable()
+        Usable::default()
     }
 }
 
+// The settings that all their words say. Not by `array::from_fn` over the registers: tried, and that its elements are the list of the rules did
+// not close. Its contract says of each element only that a call of the closure returned it, and no lemma of the library makes a list of that.
 #[tactic(auto, using(crate::proofs::Readers::shares_part))]
 pub fn settings_of(st: &[u64]) -> Settings
     requires { length st.now ≡ 29 }
@@ -152,14 +138,6 @@ pub fn limits_fit(l: Limits) -> bool
     l.feeder <= MOST && l.feeders <= MOST && l.peer <= MOST && l.peers <= MOST && l.relay <= MOST
 }
 
-// A register's settings; none where there is no such register.
-pub fn usable_in(s: Settings, r: usize) -> Usable
-    requires { r < 4 }
-    ensures { result ≡ usable_at s r }
-{
-    s.usable[r]
-}
-
 // All these registers' settings are in bounds.
 fn all_fit(usable: &[Usable]) -> bool
     ensures { result ≡ list_all usable_within usable.now }
@@ -179,12 +157,12 @@ pub fn settings_fit(s: Settings) -> bool
 }
 
 // The words of one register's rings. The bound keeps the sums below from wrapping.
-#[tactic(auto, using(crate::proofs::Needed::usable_few), unfolding(model::specs::Settings::register_words))]
+#[tactic(auto, using(crate::proofs::Needed::usable_few, crate::proofs::Placing::register_is))]
 fn register_words(u: Usable) -> u64
     requires { usable_within u ≡ true }
     ensures { (result ≡ register_words u) × (result ≤ rings_most) }
 {
-    3 * spans::ring_of(u) * (u.slots + layout::GENERATION_HEAD as u64)
+    3 * starts::ring_width(u) as u64
 }
 
 // The words of the share book's places.

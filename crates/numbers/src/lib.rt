@@ -1,6 +1,6 @@
-// The rules on single numbers as functions: settings and codes as a host hands them in, spans, buckets, seconds, windows and the
-// words needed, for every argument; then where each part of the words starts and the units that a place costs, for settings in
-// bounds. No sum or product wraps.
+// The rules on single numbers as functions: settings and codes as a host passes them, spans, buckets, seconds and windows, for every
+// argument; then the words needed, where each part of the words starts and the units that a place costs, for settings in bounds. No sum
+// or product wraps.
 #![tactic(auto)]
 
 pub mod bounds;

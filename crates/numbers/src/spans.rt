@@ -1,13 +1,12 @@
 // Spans, buckets, seconds and windows.
 ghost use Rattle.std.specs.Prelude.{◌≡◌, ◌+◌};
 ghost use Rattle.model.specs.Settings.{retained as retained_of, ahead as ahead_for, ring_of as ring_for};
-ghost use Rattle.model.specs.Generation.{as_read as print_read};
 ghost use Rattle.model.specs.Book.{second_of as second_for};
 ghost use Rattle.model.specs.Register.{through_of as through_for, published as published_for};
 ghost use Rattle.model.specs.Judge.{bucket_of as bucket_for, window_for as window_of, in_window as holds_in, front_past as past_front};
 ghost use Rattle.model.specs.Stamp.{first_stamp as first_stamp_of};
 
-use crate::capped::{TOP32, ceil_div};
+use crate::capped::ceil_div;
 use model::{Bucket, Deliverer, Judged, Second, Usable, Window};
 
 // The larger behind span.
@@ -69,11 +68,11 @@ pub fn published(u: Usable, swept: Bucket) -> Judged
 }
 
 // The second in which a bucket's entries end.
-#[tactic(auto, unfolding(model::specs::Book::second_of, model::specs::Numbers::cap64, model::specs::Numbers::cap32))]
+#[tactic(auto, unfolding(model::specs::Book::second_of, model::specs::Numbers::cap64))]
 pub fn second_of(bucket: Bucket, width: u64) -> Second
     ensures { result.0 ≡ second_for bucket.0 width }
 {
-    Second(ceil_div(bucket.0.saturating_mul(width), 1000).min(TOP32))
+    Second::from(Judged(bucket.0.saturating_mul(width)))
 }
 
 // The window that a deliverer's tickets are judged by.
@@ -105,12 +104,4 @@ pub fn front_past(w: Window, stamp: u64, now: Judged) -> bool
     ensures { result ≡ past_front w stamp now.0 }
 {
     now.0 < stamp && w.ahead < stamp - now.0
-}
-
-// A fingerprint as it is read: 0 is read as 1, since a slot of 0 is empty.
-#[tactic(auto, unfolding(model::specs::Generation::as_read))]
-pub fn as_read(fp: u64) -> u64
-    ensures { result ≡ print_read fp }
-{
-    fp.max(1)
 }

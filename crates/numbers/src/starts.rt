@@ -1,4 +1,6 @@
-// Where each part of the words starts, and how many words it has, under settings that are in bounds.
+// Where each part of the words starts, and how many words it has, under settings that are in bounds. `settings_fit` is a fact in contracts
+// and no type here: callers that hold a run have it from the run's own words, and would make such a type anew for each call. Those that
+// vet the settings first have it in `vet::Vetted`.
 ghost use Rattle.std.specs.Prelude.{◌≡◌, true, ◌+◌, ◌*◌, ◌<◌, ◌≤◌};
 ghost use Rattle.model.specs.Widths.{class_head, place_width as place_words};
 ghost use Rattle.model.specs.Settings.{settings_fit, shares_fit, usable_fit, usable_at, words_needed};
@@ -8,13 +10,24 @@ ghost use Rattle.numbers.specs.RegisterAt.{RegisterAt};
 
 use crate::{bounds, layout, spans};
 use model::{Class, Settings, Shares, Usable};
+use std::ops::Range;
 
-// A register's settings, and where its words lie.
+// A register's settings, and where its words lie: two ends and no `Range`, which is not `Copy`.
 #[derive(Clone, Copy)]
 pub struct RegisterExtent {
     pub u: Usable,
     pub start: usize,
     pub end: usize,
+}
+
+impl RegisterExtent {
+    // The register's words, in all words.
+    pub fn words(self) -> Range<usize>
+        ensures start { result.start ≡ self.start }
+        ensures end { result.end ≡ self.end }
+    {
+        self.start..self.end
+    }
 }
 
 // The words that the settings need.
@@ -41,6 +54,16 @@ pub fn place_start(b: Shares, i: usize) -> usize
     layout::CLASS_HEAD + i * place_width(b)
 }
 
+// The words of place i of a class, in the class's words.
+pub fn place_extent(b: Shares, i: usize) -> Range<usize>
+    requires { (b.pairs ≤ 512) × (i ≤ 64) }
+    ensures start { result.start ≡ class_head + i * place_words b.pairs }
+    ensures end { result.end ≡ result.start + place_words b.pairs }
+{
+    let start = place_start(b, i);
+    start..start + place_width(b)
+}
+
 // The words of a class in the book: its totals, and P places.
 pub fn class_width(b: Shares) -> usize
     requires { shares_fit b ≡ true }
@@ -50,14 +73,26 @@ pub fn class_width(b: Shares) -> usize
 }
 
 // Where a class starts.
-pub fn class_start(s: Settings, class: Class) -> usize
+fn class_start(s: Settings, class: Class) -> usize
     requires { settings_fit s ≡ true }
     ensures { (result ≡ class_from s class) × (result + class_words s.shares ≤ words_needed s) }
 {
     layout::FRONT + u64::from(class) as usize * class_width(s.shares)
 }
 
-// The words of one class's ring.
+// The words of a class, in all words. It is inlined, so that the settings are not copied for it.
+#[inline(always)]
+pub fn class_extent(s: Settings, class: Class) -> Range<usize>
+    requires { settings_fit s ≡ true }
+    ensures start { result.start ≡ class_from s class }
+    ensures end { result.end ≡ result.start + class_words s.shares }
+    ensures within { result.end ≤ words_needed s }
+{
+    let start = class_start(s, class);
+    start..start + class_width(s.shares)
+}
+
+// The words of one class's ring. ring's `Shape` says the same product of a ring by itself: `ring` stands above this crate.
 #[tactic(auto, using(crate::proofs::Needed::usable_few, crate::proofs::Placing::ring_few))]
 pub fn ring_width(u: Usable) -> usize
     requires { usable_fit u ≡ true }

@@ -1,4 +1,5 @@
-// Opening: every needed word follows from the settings, the limits and the starts. No word is read.
+// Opening: every needed word follows from the settings, the limits and the starts. No word is read. The settings come by themselves, with
+// `settings_fit` in contracts: the type that says so, `vet::Vetted`, stands in a crate that this one does not use.
 #![tactic(auto)]
 
 ghost use Rattle.std.specs.Prelude.{◌≡◌, true, ◌<◌, length};
@@ -30,16 +31,13 @@ fn write_front(front: &mut [u64], s: Settings, limits: Limits)
     ]);
 }
 
-// Whether there is a floor at the start, that floor, and whether the register waits for the host's number.
-fn start_words(start: Start) -> (u64, u64, u64)
-    ensures flag { result.0 ≡ floor_flag (start_floor start) }
-    ensures floor { result.1 ≡ floor_word (start_floor start) }
-    ensures pending { result.2 ≡ flag_word (start_pending start) }
+// The floor that a start sets, if it sets one.
+fn start_floor(start: Start) -> Option<u64>
+    ensures { result ≡ start_floor start }
 {
     match start {
-        Start::Empty => (0, 0, 0),
-        Start::Fallback => (0, 0, 1),
-        Start::At(floor) => (1, floor, 0),
+        Start::Empty | Start::Fallback => None,
+        Start::At(floor) => Some(floor),
     }
 }
 
@@ -49,7 +47,8 @@ fn write_heading(own: &mut [u64], u: Usable, start: Start)
     requires { length own.old ≡ 24 }
     ensures { own.new ≡ encode_heading u (heading_at start) }
 {
-    let (flag, floor, pending) = start_words(start);
+    let floor = start_floor(start);
+    let pending = start == Start::Fallback;
     own.fill(0);
     own[..11].copy_from_slice(&[
         u.origin.behind,
@@ -60,16 +59,16 @@ fn write_heading(own: &mut [u64], u: Usable, start: Start)
         u.slots,
         0,
         0,
-        flag,
-        floor,
-        pending,
+        u64::from(floor.is_some()),
+        floor.unwrap_or(0),
+        u64::from(pending),
     ]);
 }
 
 // The own words of register r, at its place. What was there is written over, and nothing else.
 #[tactic(auto, using(crate::proofs::Steps::register_words))]
-fn write_register(run: &mut [u64], s: Settings, starts: &[Start], r: usize)
-    requires { (settings_fit s ≡ true) × (length run.old ≡ words_needed s) × (length starts.now ≡ 4) × (r < s.registers) × (r < 4) }
+fn write_register(run: &mut [u64], s: Settings, starts: &[Start; 4], r: usize)
+    requires { (settings_fit s ≡ true) × (length run.old ≡ words_needed s) × (r < s.registers) × (r < 4) }
     ensures { run.new ≡ with_heading s starts.now r run.old }
 {
     let a = numbers::starts::register_start(s, r);
@@ -78,8 +77,8 @@ fn write_register(run: &mut [u64], s: Settings, starts: &[Start], r: usize)
 
 // The own words of every register.
 #[tactic(auto, using(crate::proofs::Steps::headed_none, crate::proofs::Steps::headed_more, crate::proofs::Steps::headed_all, numbers::proofs::Needed::few_registers))]
-fn write_registers(run: &mut [u64], s: Settings, starts: &[Start])
-    requires { (settings_fit s ≡ true) × (length run.old ≡ words_needed s) × (length starts.now ≡ 4) }
+fn write_registers(run: &mut [u64], s: Settings, starts: &[Start; 4])
+    requires { (settings_fit s ≡ true) × (length run.old ≡ words_needed s) }
     ensures { run.new ≡ with_headings s starts.now 0 s.registers run.old }
 {
     for r in 0..s.registers as usize {
@@ -89,8 +88,8 @@ fn write_registers(run: &mut [u64], s: Settings, starts: &[Start])
 
 // All the words that the settings need: an empty book with these limits, and empty registers with these starts.
 #[tactic(auto, using(crate::proofs::Laid::front_within))]
-pub fn open(run: &mut [u64], s: Settings, limits: Limits, starts: &[Start])
-    requires { (settings_fit s ≡ true) × (length run.old ≡ words_needed s) × (length starts.now ≡ 4) }
+pub fn open(run: &mut [u64], s: Settings, limits: Limits, starts: &[Start; 4])
+    requires { (settings_fit s ≡ true) × (length run.old ≡ words_needed s) }
     ensures { run.new ≡ (state_form s).enc (opened_with s limits starts.now) }
 {
     run.fill(0);

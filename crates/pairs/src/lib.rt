@@ -12,7 +12,7 @@ ghost use Rattle.model.specs.Book.{total};
 ghost use Rattle.model.specs.BookWords.{most_entries, pair_words, read_pairs, pairs_sound as rising};
 ghost use Rattle.pairs.specs.Pairs.{cells_words, passed_in, second_at, Holds, Takes, Loses, raised, lowered, inserted, removed, count_at};
 
-use numbers::capped::TOP32;
+use model::Second;
 use runs::moves;
 
 // The pairs that are earlier than a second: how many, and their entries.
@@ -22,7 +22,8 @@ pub struct Passed {
     pub entries: u64,
 }
 
-// Walks over the pairs that are earlier than a second.
+// Walks over the pairs that are earlier than a second. No binary search: it adds up the entries that it passes, and its contract holds for
+// seconds in any order. A place is searched by the same walk, which is one for both. Here and in the book's places a second is a plain number, as it lies in the cells.
 #[tactic(auto, using(crate::proofs::PairWords::walked_stop))]
 pub fn earlier(cells: &[u64], n: usize, second: u64) -> Passed
     requires { (n ≤ 512) × (2 * n ≤ length cells.now) × (total (read_pairs n cells.now) ≤ most_entries) }
@@ -116,7 +117,7 @@ pub fn are_sound(cells: &[u64], n: usize, entries: u64) -> bool
     let mut left = entries;
     let (pairs, _) = cells[..2 * n].as_chunks::<2>();
     for &[second, count] in pairs {
-        if !((least <= second) & ((second <= TOP32) & ((1 <= count) & (count <= left)))) {
+        if !((least <= second) & ((second <= Second::LAST) & ((1 <= count) & (count <= left)))) {
             return false;
         }
         least = second + 1;

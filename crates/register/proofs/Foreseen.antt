@@ -12,6 +12,8 @@ use lib.ListN.{get_or, drop, drop_of_length-le}
 use lib.Seq.{drop-cons}
 use borrow.Author.Tests.{leb-true, leb-false, le-leb, lt-leb, le-ltb, ltb-true, ltb-false}
 use borrow.Rule.Slice.PartMut.{mid_of}
+use Rattle.std.specs.List.{find}
+use Rattle.std.specs.Option.{option_map}
 use Rattle.runs.proofs.Cases.{by_test, both_true, each_true, no}
 use Rattle.model.specs.declared.Class.{Class}
 use Rattle.model.specs.declared.Class.TheVariants.{Feeders, Peers, Own}
@@ -23,7 +25,7 @@ use Rattle.model.specs.declared.Window.{Window}
 use Rattle.model.specs.First.{first_of}
 use Rattle.model.specs.Numbers.{between, under}
 use Rattle.model.specs.Settings.{ring_of, power_of_two, window_fit, usable_fit}
-use Rattle.model.specs.Class.{pick, each}
+use Rattle.model.specs.Class.{classes, pick, each}
 use Rattle.model.specs.Generation.{as_read}
 use Rattle.model.specs.Register.{Ring, Register, visits, sweep_ring, swept_to, through_of, sweep_rings, sweep}
 use Rattle.model.specs.RegisterWords.{register_form}
@@ -36,7 +38,6 @@ use Rattle.std.specs.Option.{option_cmp}
 use Rattle.ring.proofs.Sweeping.{newest_is}
 use Rattle.ring.specs.Ring.{RingReads}
 use Rattle.ring.specs.Sweep.{swept_ring, swept_says, raised_by, Visits, holds_after, room_after}
-use Rattle.register.specs.declared.extents.RingExtent.{RingExtent}
 use Rattle.register.specs.declared.peeking.Seen.{Seen}
 use Rattle.register.specs.Seen.{Sees, seen_raised_by, newest_of_class, seen_rings, seen_as, swept_from, seen_by}
 use Rattle.register.specs.Seen.{left_by, class_holds, holder_left, late_rule, judge_rule, room_left}
@@ -45,15 +46,12 @@ use Rattle.register.proofs.InRings.{ring_reads}
 use Rattle.register.proofs.Sweeps.{all_three, idle, back, on}
 
 -- ---- a class's ring, and the three
-module _ (u : Usable) (c : Class) (p : RingExtent) (l : RingAt u c p) where
+module _ (u : Usable) (c : Class) (S n a e : ℕ) (l : RingAt u c S n a e) where
   pub class_newest : (from through : ℕ) (ws : List ℕ) (d : Option ℕ)
-      → RingReads p.shape.slots p.shape.ring (swept_says from through) (mid_of p.start (p.end - p.start) ws) d
+      → RingReads S n (swept_says from through) (mid_of a (e - a) ws) d
       → RegisterReads u (newest_of_class c from through) ws d
   unfolding newest_of_class
-  class_newest from through ws d t = ring_reads u c p l t
-
-abbrev pub classes : List Class
-classes = Feeders ∷ Peers ∷ Own ∷ []
+  class_newest from through ws d t = ring_reads u c S n a e l t
 
 -- the floor raised by what would go of each class in turn: the loop is at class i
 unfoldable pub raised_among : (Class → Option ℕ) → List Class → Seen → Seen
@@ -163,19 +161,19 @@ module _ (u : Usable) (ms : ℕ) where
   seen_few ws r w t = rw (t.says w.is.value w.is.ok w.is.words) (visits_few w.is.value)
 
 -- ---- what would be held, and the room that there would be, in a class's ring
-module _ (u : Usable) (c : Class) (p : RingExtent) (l : RingAt u c p) (s : Seen) where
+module _ (u : Usable) (c : Class) (S n a e : ℕ) (l : RingAt u c S n a e) (s : Seen) where
   -- what a function on the ring asks of the buckets that are visited
-  pub ring_visits : Sees u s → Visits p.shape.ring s.buckets
+  pub ring_visits : Sees u s → Visits n s.buckets
   ring_visits v = rw l.ring v
 
   pub class_after : (b fp : ℕ) (ws : List ℕ) (r : Bool)
-      → RingReads p.shape.slots p.shape.ring (holds_after s.buckets b fp) (mid_of p.start (p.end - p.start) ws) r
+      → RingReads S n (holds_after s.buckets b fp) (mid_of a (e - a) ws) r
       → RegisterReads u (class_holds s c b fp) ws r
   unfolding class_holds
-  class_after b fp ws r t = ring_reads u c p l t
+  class_after b fp ws r t = ring_reads u c S n a e l t
 
   -- the fewest slots of a generation are two
-  pub two_slots : usable_fit u ≡ true → 2 ≤ p.shape.slots
+  pub two_slots : usable_fit u ≡ true → 2 ≤ S
   unfolding usable_fit
   two_slots fit =
       let q = each_true (window_fit u.origin) (window_fit u.copy ∷ between 1 60_000 u.bucket ∷ power_of_two u.slots ∷ leb (ring_of u) 256 ∷ []) fit in
@@ -184,39 +182,19 @@ module _ (u : Usable) (c : Class) (p : RingExtent) (l : RingAt u c p) (s : Seen)
       rw (l.slots, k.2) m
 
   pub room_seen : (b fp : ℕ) (ws : List ℕ) (r : Room)
-      → RingReads p.shape.slots p.shape.ring (room_after s.buckets p.shape.slots b fp) (mid_of p.start (p.end - p.start) ws) r
+      → RingReads S n (room_after s.buckets S b fp) (mid_of a (e - a) ws) r
       → RegisterReads u (room_left u s c b fp) ws r
   unfolding room_left
   room_seen b fp ws r t =
-      subst (λ (S : ℕ). RegisterReads u (λ reg. room_after s.buckets S b fp (pick c reg.rings)) ws r) l.slots (ring_reads u c p l t)
+      subst (λ (S : ℕ). RegisterReads u (λ reg. room_after s.buckets S b fp (pick c reg.rings)) ws r) l.slots (ring_reads u c S n a e l t)
 
--- ---- the lowest class that would hold it: the loop is at class i, and none before it would
-unfoldable pub holder_among : (Class → Bool) → List Class → Option Class
-holder_among holds [] = None
-holder_among holds (c ∷ cs) = cond (holds c) (Some c) (holder_among holds cs)
-
-module _ (u : Usable) (s : Seen) (b fp : ℕ) (ws : List ℕ) where
-  pub record Sought (i : ℕ) : Type 0 where
-    pub left : (reg : Register) → (register_form u).Ok reg → ws ≡ (register_form u).enc reg
-        → holder_among (λ c. class_holds s c b fp reg) (drop i classes) ≡ holder_left s b fp reg
-
-  pub sought_start : Sought 0
-  unfolding holder_left holder_among
-  sought_start = record { left = λ reg ok is. refl }
-
-  module _ (i : ℕ) (at : Sought i) where
-    pub sought_end : 3 ≤ i → RegisterReads u (holder_left s b fp) ws None
-    unfolding holder_among
-    sought_end h = record { says = λ reg ok is. rw (drop_of_length-le classes {i = i} h) at (at.left reg ok is) }
-
-    module _ (h : i < 3) (held : Bool) (r : RegisterReads u (class_holds s (get_or classes i Feeders) b fp) ws held) where
-      pub sought_here : held ≡ true → RegisterReads u (holder_left s b fp) ws (Some (get_or classes i Feeders))
-      unfolding holder_among
-      sought_here e = record { says = λ reg ok is. rw (drop-cons classes i Feeders h, sym (r.says reg ok is) ∙ e) at (at.left reg ok is) }
-
-      pub sought_on : held ≡ false → Sought (i + 1)
-      unfolding holder_among
-      sought_on e = record { left = λ reg ok is. rw add-one (rw (drop-cons classes i Feeders h, sym (r.says reg ok is) ∙ e) at (at.left reg ok is)) }
+-- ---- the lowest class that would hold it
+pub holder_reads : (u : Usable) (s : Seen) (b fp : ℕ) (ws : List ℕ) (r : Option Class)
+    → ((reg : Register) → (register_form u).Ok reg → ws ≡ (register_form u).enc reg → option_map (λ c. c) r ≡ find (λ c. class_holds s c b fp reg) classes)
+    → RegisterReads u (holder_left s b fp) ws r
+unfolding holder_left
+holder_reads u s b fp ws None e = record { says = e }
+holder_reads u s b fp ws (Some c) e = record { says = e }
 
 -- ---- the floor and the window
 module _ (u : Usable) (floor : Option ℕ) (a : Ask) (low : Bool) (t : low ≡ under a.stamp floor) where

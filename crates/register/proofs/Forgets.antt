@@ -26,7 +26,6 @@ use Rattle.std.specs.Prelude.{Option, Some, None}
 use Rattle.ring.specs.Ring.{RingTurns, drop_bucket_says}
 use Rattle.ring.specs.Sweep.{raised_by}
 use Rattle.register.specs.Rules.{raised_with, failed_at}
-use Rattle.register.specs.declared.extents.RingExtent.{RingExtent}
 use Rattle.register.specs.Words.{RegisterWords, RegisterTurns, RingAt}
 use Rattle.register.proofs.InRings.{ring_turns, still_words}
 
@@ -85,11 +84,11 @@ module _ (u : Usable) (c : Class) (b newest : ℕ) where
       (λ reg ok is r. (ap (register_form u).enc (failed_is reg ok), refl))
 
   -- ---- the drop in the ring's part, and the two raises of the register's
-  module _ (p : RingExtent) (l : RingAt u c p) (ws part past last : List ℕ) (d : Option ℕ) (w : RegisterWords u ws)
-      (one : RingTurns p.shape.slots p.shape.ring (drop_bucket b) (drop_bucket_says b) (mid_of p.start (p.end - p.start) ws) part d)
-      (two : (u : Usable) → RegisterTurns u (raised_with d) silent (put_mid p.start (p.end - p.start) ws part) past (tt {0}))
+  module _ (S n a e : ℕ) (l : RingAt u c S n a e) (ws part past last : List ℕ) (d : Option ℕ) (w : RegisterWords u ws)
+      (one : RingTurns S n (drop_bucket b) (drop_bucket_says b) (mid_of a (e - a) ws) part d)
+      (two : (u : Usable) → RegisterTurns u (raised_with d) silent (put_mid a (e - a) ws part) past (tt {0}))
       (three : (u : Usable) → RegisterTurns u (raised newest) silent past last (tt {0})) where
     pub fails : RegisterWords u last × RegisterTurns u (failed_at c b newest) silent ws last (tt {0})
     fails =
-        let t = fail_turns ws (put_mid p.start (p.end - p.start) ws part) past last d (ring_turns u c p l one) (two u) (three u) in
+        let t = fail_turns ws (put_mid a (e - a) ws part) past last d (ring_turns u c S n a e l one) (two u) (three u) in
         (still_words u ws last failed_ok t w, t)

@@ -53,10 +53,6 @@ module _ (u : Usable) (ws : List ℕ) where
   pub pending_reads : RegisterReads u (λ reg. reg.pending) ws (read_heading ws).pending
   pending_reads = record { says = λ reg ok is. pending_read u reg ws is }
 
-  -- whatever is told of the floor
-  pub floor_reads : {R : Type 0} (f : Option ℕ → R) → RegisterReads u (λ reg. f reg.floor) ws (f (read_heading ws).floor)
-  floor_reads f = record { says = λ reg ok is. ap f (floor_read u reg ws is) }
-
   pub under_reads : (stamp : ℕ) {f : Option ℕ} (b : Bool) → RegisterReads u (λ reg. reg.floor) ws f → b ≡ under stamp f
       → RegisterReads u (λ reg. under stamp reg.floor) ws b
   under_reads stamp b f e = record { says = λ reg ok is. e ∙ ap (under stamp) (f.says reg ok is) }

@@ -2,8 +2,7 @@
 -- Assumes nothing.
 use Prim.Native.Nat.{ℕ, ◌+◌, ◌-◌, ◌*◌, ◌<◌, ◌≤◌}
 use native.Mathlib.Omega.{arith}
-use mathlib.Core.Path.{◌≡◌, refl, sym, ap, subst, ◌∙◌}
-use mathlib.Core.Bool.{true}
+use mathlib.Core.Path.{◌≡◌, sym, ap, subst, ◌∙◌}
 use mathlib.Core.List.{List}
 use lib.ListN.{length}
 use borrow.Rule.Slice.PartMut.{mid_of, put_mid, mid_len}
@@ -11,7 +10,7 @@ use Rattle.runs.proofs.Turns.{lies_at, part_is, part_reads, part_turns, stays}
 use Rattle.model.specs.declared.Class.{Class}
 use Rattle.model.specs.declared.Room.{Room}
 use Rattle.model.specs.declared.Usable.{Usable}
-use Rattle.model.specs.Settings.{ring_of, usable_fit}
+use Rattle.model.specs.Settings.{ring_of}
 use Rattle.model.specs.Class.{class_number, pick}
 use Rattle.model.specs.Register.{Ring, Register, in_ring}
 use Rattle.model.specs.RegisterWords.{ring_form, register_form}
@@ -20,57 +19,46 @@ use Rattle.model.specs.Judge.{make_room}
 use Rattle.model.proofs.Words.{ring_exact}
 use Rattle.model.proofs.RegisterWords.{register_exact}
 use Rattle.model.proofs.Parts.{ring_part}
-use Rattle.model.proofs.Bounds.{ring_positive}
-use Rattle.numbers.proofs.Needed.{usable_few}
 use Rattle.numbers.proofs.Placing.{ring_within}
-use Rattle.ring.specs.Ring.{PositionOf, RingWords, RingReads, RingTurns}
-use Rattle.register.specs.declared.extents.RingExtent.{RingExtent}
-use Rattle.register.specs.declared.extents.Rings.{Rings}
+use Rattle.ring.specs.Ring.{RingWords, RingReads, RingTurns}
 use Rattle.register.specs.Words.{RegisterWords, RegisterReads, RegisterTurns, RingsOf, RingAt}
 
 -- ---- where a class's ring lies, among rings of the register's sizes
-pub placed : (u : Usable) (c : Class) (n : Rings) (k start : ℕ) → RingsOf u n → k ≡ class_number c → start ≡ 24 + k * n.width
-    → RingAt u c (record { shape = record { slots = u.slots; ring = n.ring }; start = start; end = start + n.width })
-placed u c n k start l e at =
+pub placed : (u : Usable) (c : Class) (S n w k start : ℕ) → RingsOf u S n w → k ≡ class_number c → start ≡ 24 + k * w
+    → RingAt u c S n start (start + w)
+placed u c S n w k start l e at =
     let from : start ≡ ring_start u c = rw (at, e, l.width) in
-    let w = ring_within u c in
+    let h = ring_within u c in
     let v = l.width in
-    record { slots = refl; ring = l.ring; start = from; end = rw l.width; within = omega arith }
+    record { slots = l.slots; ring = l.ring; start = from; end = rw l.width; within = omega arith }
 
--- a bucket's position, asked for once for all three classes
-pub position_asks : (u : Usable) (n : Rings) → RingsOf u n → usable_fit u ≡ true → (0 < n.ring) × (n.ring ≤ 256)
-position_asks u n l fit = rw l.ring (ring_positive u, (usable_few u fit).ring)
-
-module _ (u : Usable) (c : Class) (p : RingExtent) (l : RingAt u c p) where
-  pub ring_position : (n : Rings) (b i : ℕ) → RingsOf u n → PositionOf b n.ring i → PositionOf b p.shape.ring i
-  ring_position n b i sizes q = rw (l.ring ∙ sym sizes.ring) q
-
+module _ (u : Usable) (c : Class) (S n a e : ℕ) (l : RingAt u c S n a e) where
   -- a position of the register's rings
-  pub ring_below : (i : ℕ) → i < ring_of u → i < p.shape.ring
+  pub ring_below : (i : ℕ) → i < ring_of u → i < n
   ring_below i h = rw l.ring h
 
   -- what a function on the ring asks
-  pub ring_asks : (ws : List ℕ) → RegisterWords u ws → RingWords p.shape.slots p.shape.ring (mid_of p.start (p.end - p.start) ws)
+  pub ring_asks : (ws : List ℕ) → RegisterWords u ws → RingWords S n (mid_of a (e - a) ws)
   ring_asks ws w =
-      let h : p.end ≤ length ws = omega (arith, w.long, l.within) in
-      let k : p.end - p.start ≡ ring_width u = omega (arith, l.end) in
+      let h : e ≤ length ws = omega (arith, w.long, l.within) in
+      let k : e - a ≡ ring_width u = omega (arith, l.end) in
       rw (l.slots, l.ring) (record {
-        sized = record { some = ring_positive u; few = (usable_few u w.fit).ring; small = (usable_few u w.fit).slots; long = mid_len p.start p.end ws h ∙ k };
-        is = part_is (ring_part u c).lies p.start p.end l.start l.end w.is;
+        long = mid_len a e ws h ∙ k;
+        is = part_is (ring_part u c).lies a e l.start l.end w.is;
       })
 
   pub ring_reads : {R : Type 0} {out : Ring → R} {ws : List ℕ} {r : R}
-      → RingReads p.shape.slots p.shape.ring out (mid_of p.start (p.end - p.start) ws) r → RegisterReads u (λ reg. out (pick c reg.rings)) ws r
-  ring_reads t = part_reads (ring_part u c).lies p.start p.end l.start l.end (rw (l.slots, l.ring) at t)
+      → RingReads S n out (mid_of a (e - a) ws) r → RegisterReads u (λ reg. out (pick c reg.rings)) ws r
+  ring_reads t = part_reads (ring_part u c).lies a e l.start l.end (rw (l.slots, l.ring) at t)
 
   pub ring_turns : {R : Type 0} {f : Ring → Ring} {out : Ring → R} {ws last : List ℕ} {r : R}
-      → RingTurns p.shape.slots p.shape.ring f out (mid_of p.start (p.end - p.start) ws) last r
-      → RegisterTurns u (in_ring c f) (λ reg. out (pick c reg.rings)) ws (put_mid p.start (p.end - p.start) ws last) r
-  ring_turns t = part_turns (ring_part u c) p.start p.end l.start l.end (rw (l.slots, l.ring) at t)
+      → RingTurns S n f out (mid_of a (e - a) ws) last r
+      → RegisterTurns u (in_ring c f) (λ reg. out (pick c reg.rings)) ws (put_mid a (e - a) ws last) r
+  ring_turns t = part_turns (ring_part u c) a e l.start l.end (rw (l.slots, l.ring) at t)
 
   -- the room in the ring, with the register's most slots
   pub room_reads : (b fp : ℕ) {ws : List ℕ} {r : Room}
-      → RingReads p.shape.slots p.shape.ring (make_room p.shape.slots b fp) (mid_of p.start (p.end - p.start) ws) r
+      → RingReads S n (make_room S b fp) (mid_of a (e - a) ws) r
       → RegisterReads u (λ reg. make_room u.slots b fp (pick c reg.rings)) ws r
   room_reads b fp {ws} {r} t =
       subst (λ (S : ℕ). RegisterReads u (λ reg. make_room S b fp (pick c reg.rings)) ws r) l.slots (ring_reads t)
@@ -78,12 +66,12 @@ module _ (u : Usable) (c : Class) (p : RingExtent) (l : RingAt u c p) where
   -- and back: these words are those of one ring alone
   pub room_in_ring : (b fp : ℕ) (ws : List ℕ) (r : Room) → RegisterWords u ws
       → RegisterReads u (λ reg. make_room u.slots b fp (pick c reg.rings)) ws r
-      → RingReads p.shape.slots p.shape.ring (make_room p.shape.slots b fp) (mid_of p.start (p.end - p.start) ws) r
+      → RingReads S n (make_room S b fp) (mid_of a (e - a) ws) r
   room_in_ring b fp ws r w t =
       rw (l.slots, l.ring) (record {
         says = λ x ok is.
             let reg = w.is.value in
-            let seen = lies_at (ring_part u c).lies p.start p.end l.start l.end reg w.is.ok ws w.is.words in
+            let seen = lies_at (ring_part u c).lies a e l.start l.end reg w.is.ok ws w.is.words in
             let back = ((ring_exact u).forth (pick c reg.rings) ((ring_part u c).lies.fine reg w.is.ok)).1 in
             let same : pick c reg.rings ≡ x = sym back ∙ ap (ring_form u).read (sym seen ∙ is) ∙ ((ring_exact u).forth x ok).1 in
             t.says reg w.is.ok w.is.words ∙ ap (make_room u.slots b fp) same;

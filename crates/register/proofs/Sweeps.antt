@@ -1,11 +1,13 @@
 -- A sweep, ring by ring, and the three ways that a sweep takes. Assumes nothing.
-use Prim.Native.Nat.{ℕ, ◌-◌, ◌≤◌, ◌<◌, max}
+use Prim.Native.Nat.{ℕ, ◌+◌, ◌-◌, ◌≤◌, ◌<◌, max}
+use native.Mathlib.Numerals.{add-one}
 use native.Mathlib.Omega.{arith}
 use mathlib.Core.Path.{◌≡◌, refl, sym, ap, ◌∙◌}
 use mathlib.Core.Bool.{Bool, true, false}
-use mathlib.Core.List.{List}
+use mathlib.Core.List.{List, [], ◌∷◌}
 use lib.Dec.{leb}
-use lib.ListN.{get_or}
+use lib.ListN.{get_or, drop, drop_of_length-le}
+use lib.Seq.{drop-cons}
 use borrow.Author.Tests.{le-leb, lt-leb}
 use Rattle.runs.proofs.Turns.{then_with}
 use Rattle.runs.specs.Turns.{silent}
@@ -13,7 +15,7 @@ use Rattle.model.specs.declared.Class.{Class}
 use Rattle.model.specs.declared.Class.TheVariants.{Feeders, Peers, Own}
 use Rattle.model.specs.declared.Usable.{Usable}
 use Rattle.model.specs.Settings.{ring_of}
-use Rattle.model.specs.Class.{pick}
+use Rattle.model.specs.Class.{classes, pick}
 use Rattle.model.specs.Register.{Register, in_ring, sweep_ring, sweep_rings, swept_to, through_of, sweep}
 use Rattle.model.specs.RegisterWords.{register_form}
 use Rattle.model.proofs.RingsKept.{from_form, to_form, swapped_ok, swept_ok, sweep_ok}
@@ -69,22 +71,56 @@ module _ (u : Usable) where
         rings = record { of_feeders = sym x.0 i; of_peers = sym y.0 i; of_own = sym z.0 i };
       }
 
-  pub rings_turns : (a through : ℕ) (ws one two three last : List ℕ)
-      → RegisterTurns u (swept_class Feeders a through) silent ws one (tt {0})
-      → RegisterTurns u (swept_class Peers a through) silent one two (tt {0})
-      → RegisterTurns u (swept_class Own a through) silent two three (tt {0})
-      → RegisterTurns u (swept_to through) silent three last (tt {0})
-      → RegisterTurns u (sweep_rings a through) silent ws last (tt {0})
-  rings_turns a through ws one two three last f p o s = record {
-    does = λ reg ok is.
-        let x = (f.does reg ok is).0 in
-        let ok1 = class_ok Feeders a through reg ok in
-        let y = (p.does (swept_class Feeders a through reg) ok1 x).0 in
-        let ok2 = class_ok Peers a through (swept_class Feeders a through reg) ok1 in
-        let z = (o.does (swept_class Peers a through (swept_class Feeders a through reg)) ok2 y).0 in
-        let ok3 = class_ok Own a through (swept_class Peers a through (swept_class Feeders a through reg)) ok2 in
-        ((s.does (swept_class Own a through (swept_class Peers a through (swept_class Feeders a through reg))) ok3 z).0 ∙ ap (register_form u).enc (all_three a through reg), refl);
-  }
+  -- ---- the loop over them: of every register that the words were at first, it stands on the way of their sweeps, at class i
+  module _ (a through : ℕ) where
+    unfoldable pub swept_among : List Class → Register → Register
+    swept_among [] reg = reg
+    swept_among (c ∷ cs) reg = swept_among cs (swept_class c a through reg)
+
+    pub record OnWay (reg : Register) (i : ℕ) (words : List ℕ) : Type 0 where
+      pub at : Register
+      pub ok : (register_form u).Ok at
+      pub are : words ≡ (register_form u).enc at
+      pub left : swept_to through (swept_among (drop i classes) at) ≡ sweep_rings a through reg
+
+    pub record Sweeping (ws : List ℕ) (i : ℕ) (words : List ℕ) : Type 0 where
+      pub good : RegisterWords u words
+      pub way : (reg : Register) → (register_form u).Ok reg → ws ≡ (register_form u).enc reg → OnWay reg i words
+
+    module _ (ws : List ℕ) where
+      pub sweeping_start : RegisterWords u ws → Sweeping ws 0 ws
+      unfolding swept_among
+      sweeping_start good = record {
+        good = good;
+        way = λ reg ok is. record { at = reg; ok = ok; are = is; left = all_three a through reg };
+      }
+
+      module _ (i : ℕ) (words : List ℕ) (s : Sweeping ws i words) where
+        pub sweeping_on : i < 3 → (last : List ℕ) → RegisterWords u last
+            → RegisterTurns u (swept_class (get_or classes i Feeders) a through) silent words last (tt {0}) → Sweeping ws (i + 1) last
+        unfolding swept_among
+        sweeping_on h last good t = record {
+          good = good;
+          way = λ reg ok is.
+              let o = s.way reg ok is in
+              let c = get_or classes i Feeders in
+              record {
+                at = swept_class c a through o.at;
+                ok = class_ok c a through o.at o.ok;
+                are = (t.does o.at o.ok o.are).0;
+                left = rw add-one (rw (drop-cons classes i Feeders h) at o.left);
+              };
+        }
+
+        pub sweeping_end : 3 ≤ i → (last : List ℕ) → RegisterTurns u (swept_to through) silent words last (tt {0})
+            → RegisterTurns u (sweep_rings a through) silent ws last (tt {0})
+        unfolding swept_among
+        sweeping_end h last t = record {
+          does = λ reg ok is.
+              let o = s.way reg ok is in
+              let q = rw (drop_of_length-le classes {i = i} h) at o.left in
+              ((t.does o.at o.ok o.are).0 ∙ ap (register_form u).enc q, refl);
+        }
 
   -- ---- sweep: the three ways
   module _ (ms : ℕ) where

@@ -1,54 +1,62 @@
 -- Judge, step by step: what is held, the floor and the window, and the sweep before them. Assumes nothing.
-use Prim.Native.Nat.{ℕ, ◌<◌}
-use mathlib.Core.Path.{◌≡◌, refl, sym, ap, subst, ◌∙◌}
-use mathlib.Core.Bool.{Bool, true, false, cond, not, ◌||◌}
+use Prim.Native.Nat.{ℕ}
+use mathlib.Core.Path.{◌≡◌, refl, sym, ap, ◌∙◌}
+use mathlib.Core.Bool.{Bool, true, false, cond, not, ◌||◌, or-false}
 use mathlib.Core.List.{List}
+use Rattle.std.specs.List.{list_any}
 use Rattle.runs.specs.Turns.{silent}
+use Rattle.runs.proofs.Cases.{no}
+use denote.Enum.Bare.{sameb}
+use Rattle.model.specs.contracts.Verdict.{the_type}
 use Rattle.model.specs.declared.Verdict.{Verdict}
 use Rattle.model.specs.declared.Verdict.TheVariants.{New, Duplicate, Late, Ahead, Full, Unjudged}
 use Rattle.model.specs.declared.Usable.{Usable}
 use Rattle.model.specs.declared.Window.{Window}
+use Rattle.model.specs.Class.{classes, pick}
 use Rattle.model.specs.Numbers.{under}
 use Rattle.model.specs.Generation.{as_read}
-use Rattle.model.specs.Register.{Ring, Register, holds, holds_any, any_class, sweep}
+use Rattle.model.specs.Register.{Ring, Register, holds, any_class, sweep}
 use Rattle.model.specs.RegisterWords.{register_form}
 use Rattle.model.specs.Judge.{Ask, bucket_of, window_for, in_window, front_past, unjudged, verdict, Judgement, judge, ahead_for, judge_batch}
 use Rattle.model.proofs.RingsKept.{from_form, to_form, sweep_ok}
-use Rattle.model.proofs.Judging.{read_positive, judge_ok}
+use Rattle.model.proofs.Judging.{judge_ok}
 use Rattle.register.specs.Rules.{judged_register, judge_says, batch_register, batch_says}
 use Rattle.register.specs.Words.{RegisterWords, RegisterReads, RegisterTurns}
 use Rattle.register.proofs.InRings.{still_words}
 
--- ---- any of three
-pub any_reads : (u : Usable) (f : Ring → Bool) (ws : List ℕ) (a b c : Bool)
-    → RegisterReads u (λ reg. f reg.rings.of_feeders) ws a → RegisterReads u (λ reg. f reg.rings.of_peers) ws b
-    → RegisterReads u (λ reg. f reg.rings.of_own) ws c → RegisterReads u (λ reg. any_class f reg.rings) ws (a || (b || c))
-any_reads u f ws a b c x y z = record { says = λ reg ok is. rw (x.says reg ok is, y.says reg ok is, z.says reg ok is) }
-
-pub hash_reads : (u : Usable) (fp print : ℕ) (ws : List ℕ) (a b c : Bool) → print ≡ as_read fp
-    → RegisterReads u (λ reg. holds_any print reg.rings.of_feeders) ws a → RegisterReads u (λ reg. holds_any print reg.rings.of_peers) ws b
-    → RegisterReads u (λ reg. holds_any print reg.rings.of_own) ws c
-    → RegisterReads u (λ reg. any_class (holds_any (as_read fp)) reg.rings) ws (a || (b || c))
-hash_reads u fp print ws a b c e x y z =
-    subst (λ (n : ℕ). RegisterReads u (λ reg. any_class (holds_any n) reg.rings) ws (a || (b || c))) e (any_reads u (holds_any print) ws a b c x y z)
-
--- a fingerprint as it is read is not an empty slot
-pub print_positive : (fp print : ℕ) → print ≡ as_read fp → 0 < print
-print_positive fp print e = rw e (read_positive fp)
+-- ---- any of the classes
+pub any_reads : (u : Usable) (f : Ring → Bool) (ws : List ℕ) (r : Bool)
+    → ((reg : Register) → (register_form u).Ok reg → ws ≡ (register_form u).enc reg → r ≡ list_any (λ c. f (pick c reg.rings)) classes)
+    → RegisterReads u (λ reg. any_class f reg.rings) ws r
+any_reads u f ws r e = record { says = λ reg ok is. e reg ok is ∙ rw or-false }
 
 -- ---- Late turned into Ahead
-pub ahead_keeps : (past : Bool) (v : Verdict) → (v ≡ Late → ⊥) → v ≡ ahead_for past v
+pub ahead_keeps : (past : Bool) (v : Verdict) → past ≡ false → v ≡ ahead_for past v
 unfolding ahead_for
-ahead_keeps past New n = refl
-ahead_keeps past Duplicate n = refl
-ahead_keeps past Late n = absurd (n refl)
-ahead_keeps past Ahead n = refl
-ahead_keeps past Full n = refl
-ahead_keeps past Unjudged n = refl
+ahead_keeps past New e = refl
+ahead_keeps past Duplicate e = refl
+ahead_keeps past Late e = rw e
+ahead_keeps past Ahead e = refl
+ahead_keeps past Full e = refl
+ahead_keeps past Unjudged e = refl
 
-pub ahead_turns : (past : Bool) (v r : Verdict) → v ≡ Late → r ≡ cond past Ahead Late → r ≡ ahead_for past v
+pub ahead_other : (past : Bool) (v : Verdict) → sameb the_type v Late ≡ false → v ≡ ahead_for past v
 unfolding ahead_for
-ahead_turns past v r e t = rw e t
+ahead_other past New e = refl
+ahead_other past Duplicate e = refl
+ahead_other past Late e = let k : true ≡ false = e in no (cc)
+ahead_other past Ahead e = refl
+ahead_other past Full e = refl
+ahead_other past Unjudged e = refl
+
+pub ahead_turns : (past : Bool) (v : Verdict) → past ≡ true → sameb the_type v Late ≡ true → Ahead ≡ ahead_for past v
+unfolding ahead_for
+ahead_turns past New p e = let k : false ≡ true = e in no (cc)
+ahead_turns past Duplicate p e = let k : false ≡ true = e in no (cc)
+ahead_turns past Late p e = rw p
+ahead_turns past Ahead p e = refl
+ahead_turns past Full p e = let k : false ≡ true = e in no (cc)
+ahead_turns past Unjudged p e = let k : false ≡ true = e in no (cc)
 
 module _ (u : Usable) (a : Ask) where
   -- ---- the verdict on a register that is swept

@@ -8,8 +8,6 @@ use Rattle.model.specs.Register.{Register}
 use Rattle.model.specs.RegisterWords.{register_form}
 use Rattle.model.specs.Words.{ring_width, register_width, ring_start}
 use Rattle.model.specs.Most.{ring_most}
-use Rattle.register.specs.declared.extents.RingExtent.{RingExtent}
-use Rattle.register.specs.declared.extents.Rings.{Rings}
 
 -- Contracts, each said of every register that the words may be.
 abbrev pub RegisterReads : {R : Type 0} → Usable → (Register → R) → List ℕ → R → Type 0
@@ -25,17 +23,18 @@ pub record RegisterWords (u : Usable) (ws : List ℕ) : Type 0 where
   pub least : 24 ≤ length ws
   pub is : Is (register_form u).enc (register_form u).Ok ws
 
--- the sizes of a register's rings
-pub record RingsOf (u : Usable) (n : Rings) : Type 0 where
-  pub ring : n.ring ≡ ring_of u
-  pub width : n.width ≡ ring_width u
+-- the sizes of a register's rings: at most S slots, n positions, and so many words
+pub record RingsOf (u : Usable) (S n w : ℕ) : Type 0 where
+  pub slots : S ≡ u.slots
+  pub ring : n ≡ ring_of u
+  pub width : w ≡ ring_width u
   -- few words, whatever the settings in bounds
-  pub few : n.width ≤ ring_most
+  pub few_words : w ≤ ring_most
 
--- where a class's ring lies
-pub record RingAt (u : Usable) (c : Class) (p : RingExtent) : Type 0 where
-  pub slots : p.shape.slots ≡ u.slots
-  pub ring : p.shape.ring ≡ ring_of u
-  pub start : p.start ≡ ring_start u c
-  pub end : p.end ≡ p.start + ring_width u
-  pub within : p.end ≤ register_width u
+-- a class's ring of these sizes lies from word a up to word e
+pub record RingAt (u : Usable) (c : Class) (S n a e : ℕ) : Type 0 where
+  pub slots : S ≡ u.slots
+  pub ring : n ≡ ring_of u
+  pub start : a ≡ ring_start u c
+  pub end : e ≡ a + ring_width u
+  pub within : e ≤ register_width u

@@ -6,7 +6,8 @@ ghost use Rattle.register.specs.Heading.{floor_stored};
 ghost use Rattle.register.specs.Rules.{failed_at, floor_gone};
 ghost use Rattle.register.specs.Words.{RegisterWords, RegisterTurns};
 
-use crate::{extents, heading};
+use crate::extents::Rings;
+use crate::heading;
 use model::{Bucket, Class, Usable};
 use numbers::layout;
 
@@ -16,8 +17,8 @@ pub fn fail(part: &mut [u64], u: Usable, class: Class, bucket: Bucket, newest: u
     requires { RegisterWords u part.old }
     ensures { RegisterWords u part.new × RegisterTurns u (failed_at class bucket.0 newest) silent part.old part.new (tt {0}) }
 {
-    let at = extents::ring_extent(u, class);
-    let went = ring::drop_bucket(&mut part[at.start..at.end], at.shape, bucket);
+    let rings = Rings::of(u);
+    let went = ring::drop_bucket(&mut part[rings.words(class)], rings.shape, bucket);
     heading::raise_by(part, went);
     heading::raise_floor(part, newest);
 }

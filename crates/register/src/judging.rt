@@ -5,13 +5,14 @@ ghost use Rattle.register.specs.Rules.{asked_by, judged_register, judge_says, ba
 ghost use Rattle.register.specs.Words.{RegisterWords, RegisterReads, RegisterTurns};
 
 use crate::{heading, rings, sweeping};
-use model::{Deliverer, Judged, Usable, Verdict};
+use model::{Deliverer, Fingerprint, Judged, Usable, Verdict};
 use numbers::spans;
 
 // A ticket, the reading with its judging flag, and who delivers it. With the flag off the reading judges nothing. It is no Option of a
 // reading: the rules' `Ask` has the reading and the flag, as the Rust has.
 #[derive(Clone, Copy)]
 pub struct Ask {
+    // The host's number. It is read as a `Fingerprint` where it is looked up.
     pub fp: u64,
     pub stamp: u64,
     pub now: Judged,
@@ -25,7 +26,7 @@ fn verdict(part: &[u64], u: Usable, ask: Ask) -> Verdict
     ensures { RegisterReads u (λ reg. verdict_on u reg (asked_by ask)) part.now result }
 {
     let bucket = spans::bucket_of(u, ask.stamp);
-    let held = rings::holds_any_class(part, u, bucket, spans::as_read(ask.fp));
+    let held = rings::holds_any_class(part, u, bucket, Fingerprint::from(ask.fp));
     let under = heading::is_under(heading::floor(part), ask.stamp);
     let within = spans::in_window(spans::window_for(u, ask.who), ask.stamp, ask.now);
     if held {
@@ -54,9 +55,10 @@ pub fn judge(part: &mut [u64], u: Usable, ask: Ask) -> Verdict
 pub fn ahead_for(past: bool, verdict: Verdict) -> Verdict
     ensures { result ≡ turned_ahead past verdict }
 {
-    match verdict {
-        Verdict::Late => { if past { Verdict::Ahead } else { Verdict::Late } }
-        _ => verdict,
+    if past && verdict == Verdict::Late {
+        Verdict::Ahead
+    } else {
+        verdict
     }
 }
 

@@ -1,18 +1,18 @@
 // A register as the sweep of a reading would leave it, read without one: no word is written, and none is copied. What the sweep would do is
 // seen once, and then any number of tickets may be asked about.
 ghost use Rattle.std.specs.Prelude.{◌≡◌, ◌<◌};
-ghost use Rattle.ring.specs.Ring.{PositionOf};
 ghost use Rattle.register.specs.Rules.{asked_by};
 ghost use Rattle.register.specs.Seen.{Sees, newest_of_class, seen_rings, seen_by, class_holds, holder_left, late_rule, judge_rule, room_left};
-ghost use Rattle.register.specs.Words.{RegisterWords, RegisterReads, RingsOf};
+ghost use Rattle.register.specs.Words.{RegisterWords, RegisterReads};
 
 use crate::extents::Rings;
-use crate::{Ask, extents, heading, sweeping};
-use model::{Bucket, Class, Judged, Reason, Room, Usable};
+use crate::{Ask, heading, sweeping};
+use model::{Bucket, Class, Fingerprint, Judged, Reason, Room, Usable};
 use numbers::{layout, spans};
-use ring::Buckets;
+use ring::{Buckets, Position};
 
 // What a sweep would do: it would visit the positions of these buckets, of none where `from` is `through`, and leave this floor, if any.
+// `Sees` is a fact in contracts: it is said by the register's settings, which `Seen` does not keep.
 #[derive(Clone, Copy)]
 pub struct Seen {
     pub buckets: Buckets,
@@ -20,23 +20,22 @@ pub struct Seen {
 }
 
 // The newest that would go of a class's ring.
-fn newest_in(part: &[u64], u: Usable, rings: Rings, class: Class, buckets: Buckets) -> Option<u64>
-    requires { RegisterWords u part.now × RingsOf u rings }
-    ensures { RegisterReads u (newest_of_class class buckets.from.0 buckets.through.0) part.now result }
+fn newest_in(part: &[u64], rings: Rings, class: Class, buckets: Buckets) -> Option<u64>
+    requires { RegisterWords rings.u part.now }
+    ensures { RegisterReads rings.u (newest_of_class class buckets.from.0 buckets.through.0) part.now result }
 {
-    let at = extents::extent_in(u, rings, class);
-    ring::newest_passed(&part[at.start..at.end], at.shape, buckets)
+    ring::newest_passed(&part[rings.words(class)], rings.shape, buckets)
 }
 
 // The floor raised by what would go of the three rings: None is the least, so a floor never falls, and one that is absent becomes
 // the first that would go.
-fn see_rings(part: &[u64], u: Usable, rings: Rings, seen: Seen) -> Seen
-    requires { RegisterWords u part.now × RingsOf u rings }
-    ensures { RegisterReads u (seen_rings seen) part.now result }
+fn see_rings(part: &[u64], rings: Rings, seen: Seen) -> Seen
+    requires { RegisterWords rings.u part.now }
+    ensures { RegisterReads rings.u (seen_rings seen) part.now result }
 {
     let mut floor = seen.floor;
-    for class in [Class::Feeders, Class::Peers, Class::Own] {
-        floor = floor.max(newest_in(part, u, rings, class, seen.buckets));
+    for class in Class::ALL {
+        floor = floor.max(newest_in(part, rings, class, seen.buckets));
     }
     Seen { floor, ..seen }
 }
@@ -56,53 +55,44 @@ pub fn see(part: &[u64], u: Usable, reading: Judged) -> Seen
         };
         Seen { buckets, floor }
     } else {
-        let rings = extents::rings_of(u);
+        let rings = Rings::of(u);
         let buckets = Buckets {
-            from: sweeping::sweep_from(swept, through, rings.ring as u64),
+            from: sweeping::sweep_from(swept, through, rings.shape.ring as u64),
             through,
         };
-        see_rings(part, u, rings, Seen { buckets, floor })
+        see_rings(part, rings, Seen { buckets, floor })
     }
 }
 
-// Whether a class's ring would hold a fingerprint in a bucket, whose position is `position`.
+// Whether a class's ring would hold a fingerprint in a bucket, by its position.
 fn holds_after(
     part: &[u64],
-    u: Usable,
     rings: Rings,
     seen: Seen,
     class: Class,
-    position: usize,
-    bucket: Bucket,
-    fp: u64,
+    position: Position,
+    fp: Fingerprint,
 ) -> bool
-    requires { (((0 < fp) × RegisterWords u part.now) × (RingsOf u rings × PositionOf bucket.0 rings.ring position)) × Sees u seen }
-    ensures { RegisterReads u (class_holds seen class bucket.0 fp) part.now result }
+    requires { RegisterWords rings.u part.now × ((position.shape ≡ rings.shape) × Sees rings.u seen) }
+    ensures { RegisterReads rings.u (class_holds seen class position.bucket.0 fp.word) part.now result }
 {
-    let at = extents::extent_in(u, rings, class);
-    ring::contains_after(
-        &part[at.start..at.end],
-        at.shape,
-        position,
-        seen.buckets,
-        bucket,
-        fp,
-    )
+    ring::contains_after(&part[rings.words(class)], position, seen.buckets, fp)
 }
 
 // The lowest class whose ring would.
-fn holder_after(part: &[u64], u: Usable, seen: Seen, bucket: Bucket, fp: u64) -> Option<Class>
-    requires { ((0 < fp) × RegisterWords u part.now) × Sees u seen }
-    ensures { RegisterReads u (holder_left seen bucket.0 fp) part.now result }
+fn holder_after(
+    part: &[u64],
+    u: Usable,
+    seen: Seen,
+    bucket: Bucket,
+    fp: Fingerprint,
+) -> Option<Class>
+    requires { RegisterWords u part.now × Sees u seen }
+    ensures { RegisterReads u (holder_left seen bucket.0 fp.word) part.now result }
 {
-    let rings = extents::rings_of(u);
-    let at = ring::position(bucket, rings.ring);
-    for class in [Class::Feeders, Class::Peers, Class::Own] {
-        if holds_after(part, u, rings, seen, class, at, bucket, fp) {
-            return Some(class);
-        }
-    }
-    None
+    let rings = Rings::of(u);
+    let position = rings.shape.position_of(bucket);
+    Class::ALL.iter().copied().find(|class| holds_after(part, rings, seen, *class, position, fp))
 }
 
 // The first of the rules on the stamp that is met: the floor, and the window's two sides.
@@ -129,7 +119,7 @@ pub fn judge_after(part: &[u64], u: Usable, seen: Seen, ask: Ask) -> Reason
     ensures { RegisterReads u (judge_rule u seen (asked_by ask)) part.now result }
 {
     let bucket = spans::bucket_of(u, ask.stamp);
-    let fp = spans::as_read(ask.fp);
+    let fp = Fingerprint::from(ask.fp);
     if heading::is_pending(part) {
         Reason::Pending
     } else if !ask.judging {
@@ -148,11 +138,16 @@ pub fn room_after(
     seen: Seen,
     class: Class,
     bucket: Bucket,
-    fp: u64,
+    fp: Fingerprint,
 ) -> Room
-    requires { ((0 < fp) × RegisterWords u part.now) × Sees u seen }
-    ensures { RegisterReads u (room_left u seen class bucket.0 fp) part.now result }
+    requires { RegisterWords u part.now × Sees u seen }
+    ensures { RegisterReads u (room_left u seen class bucket.0 fp.word) part.now result }
 {
-    let at = extents::ring_extent(u, class);
-    ring::room_after(&part[at.start..at.end], at.shape, seen.buckets, bucket, fp)
+    let rings = Rings::of(u);
+    ring::room_after(
+        &part[rings.words(class)],
+        rings.shape.position_of(bucket),
+        seen.buckets,
+        fp,
+    )
 }

@@ -1,36 +1,31 @@
 // Sweep: every generation that the clock has passed is dropped, and the newest stamp that went raises the floor.
-ghost use Rattle.std.specs.Prelude.{◌≡◌, ◌-◌, ◌<◌, max};
+ghost use Rattle.std.specs.Prelude.{◌≡◌, ◌-◌, max};
 ghost use Rattle.runs.specs.Turns.{silent};
 ghost use Rattle.model.specs.Register.{sweep_rings as swept_rings, sweep as swept_by};
-ghost use Rattle.register.specs.Words.{RegisterWords, RegisterTurns, RingsOf};
+ghost use Rattle.register.specs.Words.{RegisterWords, RegisterTurns};
 
 use crate::extents::Rings;
-use crate::{extents, heading, rings};
+use crate::{heading, rings};
 use model::{Bucket, Class, Judged, Usable};
 use numbers::{layout, spans};
 use ring::Buckets;
 
 // The bucket that a sweep starts from: the one swept last, or a whole ring back where the clock has moved further than that.
 pub(crate) fn sweep_from(swept: Bucket, through: Bucket, ring: u64) -> Bucket
-    requires { swept.0 < through.0 }
     ensures { result.0 ≡ max swept.0 (through.0 - ring) }
 {
-    if ring <= through.0 - swept.0 {
-        Bucket(through.0 - ring)
-    } else {
-        swept
-    }
+    Bucket(swept.0.max(through.0.saturating_sub(ring)))
 }
 
-// The three rings are swept, and the register is swept up to a bucket. A loop over the classes would be no shorter.
-fn sweep_rings(part: &mut [u64], u: Usable, sizes: Rings, buckets: Buckets)
-    requires { RegisterWords u part.old × RingsOf u sizes }
-    ensures { RegisterTurns u (swept_rings buckets.from.0 buckets.through.0) silent part.old part.new (tt {0}) }
+// The three rings are swept, and the register is swept up to a bucket.
+fn sweep_rings(part: &mut [u64], rings: Rings, buckets: Buckets)
+    requires { RegisterWords rings.u part.old }
+    ensures { RegisterTurns rings.u (swept_rings buckets.from.0 buckets.through.0) silent part.old part.new (tt {0}) }
 {
-    rings::sweep_class(part, u, sizes, Class::Feeders, buckets);
-    rings::sweep_class(part, u, sizes, Class::Peers, buckets);
-    rings::sweep_class(part, u, sizes, Class::Own, buckets);
-    heading::set_swept(part, u, buckets.through);
+    for class in Class::ALL {
+        rings::sweep_class(part, rings, class, buckets);
+    }
+    heading::set_swept(part, rings.u, buckets.through);
 }
 
 // A pending register does not sweep. A clock that stepped back drops nothing, and what is taken after it is dropped as that
@@ -48,11 +43,11 @@ pub fn sweep(part: &mut [u64], u: Usable, reading: Judged)
     if through.0 < swept.0 {
         heading::set_swept(part, u, through);
     } else if swept.0 < through.0 {
-        let sizes = extents::rings_of(u);
+        let rings = Rings::of(u);
         let buckets = Buckets {
-            from: sweep_from(swept, through, sizes.ring as u64),
+            from: sweep_from(swept, through, rings.shape.ring as u64),
             through,
         };
-        sweep_rings(part, u, sizes, buckets);
+        sweep_rings(part, rings, buckets);
     }
 }

@@ -9,7 +9,7 @@ ghost use Rattle.register.specs.Words.{RegisterWords, RegisterReads};
 ghost use Rattle.dump.specs.Outputs.{Holds, Outputs};
 ghost use Rattle.register_view.specs.Views.{nothing_before, part_view};
 
-use dump::{Element, Shown, held_in, put_all, put_rings, shape_of};
+use dump::{Element, Generations, Output, Rings, Shown};
 use generation::Generation;
 use model::Usable;
 
@@ -24,16 +24,13 @@ impl Shown for Viewed {
 
     ghost of_part = { part_view };
 
-    fn put_head<E: Element>(_out: &mut [E], at: usize, _ring: &[u64], _wide: usize) -> usize {
-        at
-    }
+    fn put_head<E: Element>(_out: &mut Output<'_, E>, _ring: Generations<'_>) {}
 
-    fn put_generation<E: Element>(out: &mut [E], at: usize, part: &[u64]) -> usize {
+    fn put_generation<E: Element>(out: &mut Output<'_, E>, part: &[u64]) {
         let head = Generation::of(part);
-        if head.held == 0 {
-            return at;
+        if head.held != 0 {
+            out.put_all(&[head.bucket, head.oldest, head.newest, head.held]);
         }
-        put_all(out, at, &[head.bucket, head.oldest, head.newest, head.held])
     }
 }
 
@@ -42,7 +39,7 @@ pub fn view_length(part: &[u64], u: Usable) -> usize
     requires { RegisterWords u part.now }
     ensures { RegisterReads u (λ reg. length (register_view reg)) part.now result }
 {
-    EACH * (held_in(part, shape_of(u)) as usize)
+    EACH * (Rings::of(part, u).held() as usize)
 }
 
 // Writes it at the start of an output that is long enough, leaves what lies behind it, and answers how many words it has.
@@ -50,5 +47,7 @@ pub fn view(out: &mut [u64], part: &[u64], u: Usable) -> usize
     requires { RegisterWords u part.now × Holds register_view u part.now out.old }
     ensures { Outputs register_view u part.now out.old out.new result }
 {
-    put_rings::<Viewed, u64>(out, 0, part, shape_of(u))
+    let mut to = Output { out, at: 0 };
+    Rings::of(part, u).show::<Viewed, u64>(&mut to);
+    to.at
 }

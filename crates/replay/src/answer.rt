@@ -25,6 +25,7 @@ impl Given for bool {
     }
 }
 
+// Numbers, by themselves: one impl over `Into<u64>` would take in Reason, which is told by three.
 impl Given for u64 {
     fn put_on(&self, line: &mut Line) -> Result<(), AllocError> {
         line.put(*self)
@@ -51,9 +52,9 @@ impl Given for Verdict {
 
 impl Given for Reason {
     fn put_on(&self, line: &mut Line) -> Result<(), AllocError> {
-        line.put(codes::reason_number(*self))?;
+        line.put(u64::from(*self))?;
         line.put(codes::reason_class(*self))?;
-        codes::reason_verdict(*self).put_on(line)
+        Verdict::from(*self).put_on(line)
     }
 }
 
@@ -123,7 +124,8 @@ impl Line {
         Ok(line)
     }
 
-    // Puts a number behind the others, with a blank between them.
+    // Puts a number behind the others, with a blank between them. Not by `write!`: what decimals::write writes is proved to be what
+    // decimals::read reads. The digits are an array and no `Vec`, which would need an allocator and an error for none: no number has more.
     fn put(&mut self, n: u64) -> Result<(), AllocError> {
         if !self.text.is_empty() {
             self.text.push(b' ')?;

@@ -1,6 +1,5 @@
 // Reads the lines, and the call of a line.
 ghost use Rattle.std.specs.Iterator.{IsFinite};
-ghost use Rattle.std.specs.Prelude.{◌≤◌, length, IfSome};
 
 use std::io;
 use std::io::{BufRead, Read};
@@ -32,8 +31,8 @@ pub(crate) fn next(input: &mut impl BufRead, text: &mut Vec<u8>) -> io::Result<b
 }
 
 // Reads the call of a line, whose bytes go into `bytes`: none where a part is no number, where numbers are missing, or where there is no
-// room for them. A blank may stand behind the last number.
-pub(crate) fn read<'a>(text: &[u8], bytes: &'a mut [u8]) -> Option<Call<'a>> {
+// room for them. A blank may stand behind the last number. Not by `parse`, which reads `+5` too: that is no number here.
+pub(crate) fn read<'a>(text: &[u8], bytes: &'a mut Vec<u8>) -> Option<Call<'a>> {
     let text = text.strip_suffix(b" ").unwrap_or(text);
     let mut numbers = text.split(|b| *b == b' ').map(decimals::read);
     let code = numbers.next()??;
@@ -42,24 +41,25 @@ pub(crate) fn read<'a>(text: &[u8], bytes: &'a mut [u8]) -> Option<Call<'a>> {
     for argument in arguments.get_mut(..count as usize)? {
         *argument = numbers.next()??;
     }
-    let brought = read_bytes(numbers, bytes)?;
+    read_bytes(numbers, bytes)?;
     Some(Call {
         code,
         arguments,
-        bytes: &bytes[..brought],
+        bytes,
     })
 }
 
-// Reads bytes into `out`, and returns how many they are: none where a number is no byte, or where there is no room for it.
-fn read_bytes<I: Iterator<Item = Option<u64>> + Drop>(numbers: I, out: &mut [u8]) -> Option<usize>
+// Reads bytes into `bytes`, which never grows: none where a number is no byte, or where there is no room for it.
+fn read_bytes<I: Iterator<Item = Option<u64>> + Drop>(numbers: I, bytes: &mut Vec<u8>) -> Option<()>
     requires can { I.can_next numbers }
     requires finite { IsFinite (I.remaining numbers) }
-    ensures { IfSome result (λ n. n ≤ length out.new) }
 {
-    let mut count = 0;
+    bytes.clear();
     for n in numbers {
-        *out.get_mut(count)? = u8::try_from(n?).ok()?;
-        count += 1;
+        if bytes.len() == bytes.capacity() {
+            return None;
+        }
+        bytes.push(u8::try_from(n?).ok()?).ok()?;
     }
-    Some(count)
+    Some(())
 }

@@ -30,7 +30,7 @@ fn main(rt: HostRuntime) -> io::Result<()> {
     let mut input = BufReader::new(alloc, rt.reader())?;
     let mut register = Register::new(alloc)?;
     let mut text = Vec::new(alloc);
-    let mut bytes = vec![in alloc; 0; run::BYTES]?;
+    let mut bytes = Vec::with_capacity(alloc, run::BYTES)?;
     for _ in 0..u64::MAX {
         if !line::next(&mut input, &mut text)? {
             break;

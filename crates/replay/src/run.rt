@@ -17,7 +17,8 @@ pub(crate) const BYTES: usize = 800000;
 const VIEW: usize = 3072;
 
 // The code of each call, under the name that it has in docs/CALLS.md, and of the lines that set the stage. tests/replay_stdin takes the
-// codes from here.
+// codes from here. They are constants and no enum: each names one arm of one match, and an enum would need a second match of as many arms,
+// from numbers to variants.
 const OPEN: u64 = 1;
 
 const JUDGE: u64 = 2;
@@ -71,8 +72,9 @@ const SETTINGS: u64 = 102;
 const POKE: u64 = 103;
 
 // A register: its words, of which as many are lent as `lent` says, if there are so many; the settings of the last opening that went
-// through; and those that the next call brings, 29 words each. All of them are 0 before the first opening, which every call refuses.
-// Dumps are written to `dump`.
+// through; and those that the next call brings. Settings have 29 words, whatever they say, so they are arrays and no `Vec`. All of them are
+// 0 before the first opening, which every call refuses. Dumps are written to `dump`, and views to `view`. `words` are all that can be
+// lent, and no `Vec` that is cut to `lent`: words past those lent stay, and may be lent again.
 #[derive(Drop)]
 pub struct Register {
     words: Vec<u64>,
@@ -80,6 +82,7 @@ pub struct Register {
     kept: [u64; 29],
     next: [u64; 29],
     dump: Vec<u8>,
+    view: Vec<u64>,
 }
 
 impl Register {
@@ -90,6 +93,7 @@ impl Register {
             kept: [0; 29],
             next: [0; 29],
             dump: vec![in alloc; 0; BYTES]?,
+            view: vec![in alloc; 0; VIEW]?,
         })
     }
 
@@ -129,12 +133,10 @@ impl Register {
     // Keeps the settings of an opening that goes through; brings the kept ones again after any other.
     fn open(&mut self, alloc: Global, a: &[u64; 64]) -> Result<Line, AllocError> {
         let settings = settings_of(a);
-        let limits = [a[5], a[6], a[7], a[8], a[9]];
-        let starts = [a[16], a[17], a[24], a[25], a[32], a[33], a[40], a[41]];
         let answer = strikes::open(
             &settings,
-            &limits,
-            &starts,
+            &a[5..10],
+            &starts_of(a),
             lent(&mut self.words, self.lent),
         );
         if answer.is_ok() {
@@ -177,7 +179,7 @@ impl Register {
             LIMITS => Line::told(alloc, strikes::set_limits(s, words, &a[..5])),
             CLOSE => Line::told(alloc, strikes::close(s, words)),
             DUMP => {
-                let n = output_length(a[1], a[2], self.dump.len());
+                let n = output_length(length_given(a[1], a[2]), self.dump.len());
                 let out = &mut self.dump[..n];
                 let answer = strikes::dump(s, words, a[0], out);
                 Line::told_with(alloc, answer, out)
@@ -190,22 +192,27 @@ impl Register {
             HELD => Line::told(alloc, strikes::held(s, words, deliverer_code(a[0], a[1]))),
             CLASS => Line::told(alloc, strikes::class_totals(s, words, a[0])),
             VIEW_REGISTER => {
-                let mut out = [0; VIEW];
-                let out = &mut out[..output_length(a[1], a[2], VIEW)];
+                let n = output_length(length_given(a[1], a[2]), self.view.len());
+                let out = &mut self.view[..n];
                 let answer = strikes::view_register(s, words, a[0], out);
                 Line::told_with(alloc, answer, out)
             }
             VIEW_DELIVERER => {
-                let mut out = [0; VIEW];
-                let out = &mut out[..output_length(a[2], a[3], VIEW)];
+                let n = output_length(length_given(a[2], a[3]), self.view.len());
+                let out = &mut self.view[..n];
                 let answer = strikes::view_deliverer(s, words, deliverer_code(a[0], a[1]), out);
                 Line::told_with(alloc, answer, out)
             }
             EXPLAIN => Line::told(alloc, strikes::explain(s, words, a[0], asking(&a))),
             STAMP_FOR => {
-                let who = deliverer_code(a[4], a[5]);
-                let answer = strikes::stamp_for(s, words, a[0], a[1], a[2], a[3], who, a[6]);
-                Line::told(alloc, answer)
+                let asking = Asking {
+                    fp: a[1],
+                    stamp: 0,
+                    reading: a[2],
+                    flag: a[3],
+                    who: deliverer_code(a[4], a[5]),
+                };
+                Line::told(alloc, strikes::stamp_for(s, words, a[0], asking, a[6]))
             }
             _ => Line::unread(alloc),
         }
@@ -222,12 +229,21 @@ fn lent(words: &mut [u64], lent: usize) -> &mut [u64] {
 fn settings_of(a: &[u64; 64]) -> [u64; 29] {
     let mut settings = [0; 29];
     settings[..5].copy_from_slice(&a[..5]);
-    for register in 0..4 {
-        let to = 5 + 6 * register;
-        let from = 10 + 8 * register;
-        settings[to..to + 6].copy_from_slice(&a[from..from + 6]);
+    let (registers, _) = a[10..].as_chunks::<8>();
+    for (to, from) in settings[5..].chunks_exact_mut(6).zip(registers) {
+        to.copy_from_slice(&from[..6]);
     }
     settings
+}
+
+// The starts that they name: of each register, the last 2 of its 8 arguments.
+fn starts_of(a: &[u64; 64]) -> [u64; 8] {
+    let mut starts = [0; 8];
+    let (registers, _) = a[10..].as_chunks::<8>();
+    for (to, from) in starts.chunks_exact_mut(2).zip(registers) {
+        to.copy_from_slice(&from[6..]);
+    }
+    starts
 }
 
 // The ticket that a call asks about: the arguments behind its register.
@@ -246,13 +262,14 @@ fn deliverer_code(kind: u64, number: u64) -> DelivererCode {
     DelivererCode { kind, number }
 }
 
+// The length of an output, by two arguments: the second where the first is not 0, else none.
+fn length_given(given: u64, length: u64) -> Option<usize> {
+    (given != 0).then_some(length as usize)
+}
+
 // The length of an output: that which is given, else all of it. An output longer than that takes nothing that all of it does not.
-fn output_length(given: u64, length: u64, all: usize) -> usize
+fn output_length(given: Option<usize>, all: usize) -> usize
     ensures { result ≤ all }
 {
-    if given == 0 {
-        all
-    } else {
-        all.min(length as usize)
-    }
+    given.map_or(all, |length| all.min(length))
 }

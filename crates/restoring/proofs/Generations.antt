@@ -10,7 +10,7 @@ use Rattle.runs.proofs.Cases.{split_if, no}
 use Rattle.runs.specs.Turns.{silent}
 use Rattle.model.proofs.Choice.{true_false}
 use mathlib.Core.List.{List, [], ◌∷◌}
-use lib.ListN.{length, get_or, drop}
+use lib.ListN.{length, get_or, take, drop}
 use Rattle.model.specs.declared.Deliverer.{Deliverer}
 use Rattle.model.specs.declared.Deliverer.TheVariants.{Restored}
 use Rattle.model.specs.declared.Room.{Room}
@@ -21,7 +21,6 @@ use Rattle.model.specs.Book.{Book, undrawn}
 use Rattle.model.specs.Register.{Register}
 use Rattle.model.specs.Dump.{Dumped, Holding, Restoring, words_of, hold_room, hold_one, hold_all, undrawn_all, failed, settled}
 use Rattle.register.specs.Rules.{failed_at}
-use Rattle.dump.specs.Walk.{length_at, dumped_at, next_at}
 use Rattle.dump.proofs.Walks.{prints_next, prints_end}
 use Rattle.taking.specs.Words.{RunWords}
 use Rattle.restoring.specs.declared.heads.Head.{Head}
@@ -105,20 +104,17 @@ module _ (s : Settings) (r : ℕ) (h : Head) where
   unfolding hold_all
   done_is ps n reg k = refl
 
-  module _ (bs : List ℕ) (at : ℕ) (before : List ℕ) where
+  module _ (bs : List ℕ) (at long : ℕ) (before : List ℕ) where
     abbrev prints : List ℕ
-    prints = (dumped_at (words_of bs) at).prints
+    prints = take long (drop at (words_of bs))
 
     pub record Holds (ws : List ℕ) (n j : ℕ) : Type 0 where
       pub words : RunWords s ws
       pub few : n ≤ j
       pub rest : Rest s r before ws (all_from prints (drop j prints) n) (all_held s r h prints)
 
-    pub holds_start : RunWords s before → Holds before 0 0
-    holds_start w = record { words = w; few = omega arith; rest = rest_start s r before (all_from prints prints 0) (all_held s r h prints) (λ reg k. refl) }
-
-    pub holds_next : (inside : next_at (words_of bs) at ≤ length bs / 8) (ws last : List ℕ) (n j fp m : ℕ) (v : Result ℕ ℕ) → Holds ws n j → j < length_at (words_of bs) at
-        → fp ≡ get_or (words_of bs) (at + 3 + j) 0
+    pub holds_next : (inside : at + long ≤ length bs / 8) (ws last : List ℕ) (n j fp m : ℕ) (v : Result ℕ ℕ) → Holds ws n j → j < long
+        → fp ≡ get_or (words_of bs) (at + j) 0
         → RunWords s last → AllOnes s r h fp n ws last v → m ≤ n + 1 → v ≡ Ok m → Holds last m (j + 1)
     holds_next inside ws last n j fp m v i l f w done less fit = record {
       words = w;
@@ -129,14 +125,14 @@ module _ (s : Settings) (r : ℕ) (h : Head) where
           let x = one_held s r h prints fp n reg k in
           let p = tally_ok v m x.draws x.fits fit e in
           let y : holding m x.register x.book ≡ x = λ o. record { register = x.register; book = x.book; draws = p.1 o; fits = p.0 o } in
-          let q : drop j prints ≡ fp ∷ drop (j + 1) prints = rw f (prints_next bs at inside j l) in
+          let q : drop j prints ≡ fp ∷ drop (j + 1) prints = rw f (prints_next bs at long inside j l) in
           ap (λ (z : Holding). hold_all (usable_at s r) s.shares h.class (headed h prints) (drop (j + 1) prints) z) y
           ∙ sym (next_is prints (drop (j + 1) prints) fp n reg k)
           ∙ ap (λ (z : List ℕ). all_from prints z n reg k) (sym q));
     }
 
-    pub holds_stop : (inside : next_at (words_of bs) at ≤ length bs / 8) (ws last : List ℕ) (n j fp m : ℕ) (v : Result ℕ ℕ) → Holds ws n j → j < length_at (words_of bs) at
-        → fp ≡ get_or (words_of bs) (at + 3 + j) 0
+    pub holds_stop : (inside : at + long ≤ length bs / 8) (ws last : List ℕ) (n j fp m : ℕ) (v : Result ℕ ℕ) → Holds ws n j → j < long
+        → fp ≡ get_or (words_of bs) (at + j) 0
         → AllOnes s r h fp n ws last v → v ≡ Err m → HoldActs s r (all_held s r h prints) before last (Err m)
     holds_stop inside ws last n j fp m v i l f done unfit =
         let stop : Register → Book → Holding = λ reg k. record { register = reg; book = k; draws = m; fits = false } in
@@ -147,16 +143,16 @@ module _ (s : Settings) (r : ℕ) (h : Head) where
         let p = tally_err v m x.draws x.fits unfit e in
         let y : stop x.register x.book ≡ x = λ o. record { register = x.register; book = x.book; draws = p.1 o; fits = p.0 o } in
         let z : x.fits ≡ false = sym p.0 in
-        let q : drop j prints ≡ fp ∷ drop (j + 1) prints = rw f (prints_next bs at inside j l) in
+        let q : drop j prints ≡ fp ∷ drop (j + 1) prints = rw f (prints_next bs at long inside j l) in
         y ∙ sym (stopped (headed h prints) (drop (j + 1) prints) x z)
         ∙ sym (next_is prints (drop (j + 1) prints) fp n reg k)
         ∙ ap (λ (z : List ℕ). all_from prints z n reg k) (sym q)) in
         rest_end s r before last stop (all_held s r h prints) (λ x. x.register) (λ x. x.book) tally_of (Err m) rest (λ reg k. refl) (λ reg k. refl) (λ reg k. refl)
 
-    pub holds_end : (inside : next_at (words_of bs) at ≤ length bs / 8) (ws : List ℕ) (n j : ℕ) → Holds ws n j → length_at (words_of bs) at ≤ j
+    pub holds_end : (inside : at + long ≤ length bs / 8) (ws : List ℕ) (n j : ℕ) → Holds ws n j → long ≤ j
         → HoldActs s r (all_held s r h prints) before ws (Ok n)
     holds_end inside ws n j i l =
-        let q = prints_end bs at inside j l in
+        let q = prints_end bs at long inside j l in
         let e : (reg : Register) (k : Book) → all_from prints (drop j prints) n reg k ≡ holding n reg k = λ reg k. ap (λ (z : List ℕ). all_from prints z n reg k) q ∙ done_is prints n reg k in
         rest_end s r before ws (all_from prints (drop j prints) n) (all_held s r h prints) (λ x. x.register) (λ x. x.book) tally_of (Ok n) i.rest
         (λ reg k. ap (λ (z : Holding). z.register) (e reg k)) (λ reg k. ap (λ (z : Holding). z.book) (e reg k)) (λ reg k. sym (ap tally_of (e reg k)))

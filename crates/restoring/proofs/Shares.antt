@@ -10,7 +10,6 @@ use Rattle.model.specs.declared.Class.{Class}
 use Rattle.model.specs.declared.Class.TheVariants.{Feeders, Peers, Own}
 use Rattle.model.specs.declared.Deliverer.TheVariants.{Restored}
 use Rattle.model.specs.declared.Draw.{Draw}
-use Rattle.model.specs.declared.Limits.{Limits}
 use Rattle.model.specs.declared.Settings.{Settings}
 use Rattle.model.specs.Settings.{usable_at}
 use Rattle.model.specs.Class.{Each, pick, swap, class_of}
@@ -20,10 +19,12 @@ use Rattle.model.specs.Words.{state_form, FrontOk, encode_front, class_width, cl
 use Rattle.model.proofs.Bounds.{fit_shares}
 use Rattle.model.proofs.BookKept.{BookOk, pairs_some, second_short, drawn_ok, undrawn_ok}
 use Rattle.model.proofs.SoundnessKept.{book_in, with_book_ok}
+use Rattle.book.specs.declared.front.Terms.{Terms}
+use Rattle.book.specs.FrontRules.{terms_of}
 use Rattle.book.specs.ClassRules.{ClassIs, ClassTurns, drawn_class, returned}
 use Rattle.taking.specs.Words.{RunWords}
 use Rattle.taking.proofs.InRun.{class_asks, class_turns}
-use Rattle.taking.proofs.Draws.{limits_says, closed_says}
+use Rattle.taking.proofs.Draws.{terms_say}
 use Rattle.restoring.specs.declared.heads.Head.{Head}
 use Rattle.restoring.specs.Rules.{Suits, may_draw, drawn_if}
 use Rattle.restoring.specs.Words.{put, Acts}
@@ -52,20 +53,19 @@ module _ (s : Settings) (r : ℕ) (q : r < s.registers) (h : Head) (ws : List �
       } in
       (acts_words s r q ws (put_mid a (e - a) ws last) w acts, acts)
 
-  module _ (limits : Limits) (closed : Bool) (l : Reads (encode_front s) FrontOk (λ f. f.limits) (mid_of 0 (20 - 0) ws) limits)
-      (c : Reads (encode_front s) FrontOk (λ f. f.closed) (mid_of 0 (20 - 0) ws) closed) where
+  module _ (terms : Terms) (front : Reads (encode_front s) FrontOk terms_of (mid_of 0 (20 - 0) ws) terms) where
     -- the class after the draw, in its book
-    drawn_is : (k : Book) → limits ≡ k.limits → closed ≡ k.closed
+    drawn_is : (k : Book) → terms ≡ record { limits = k.limits; closed = k.closed }
         → record {
           limits = k.limits;
           closed = k.closed;
           classes = swap h.class
-              (drawn_class s.shares limits closed (Restored h.class) h.second.0 (pick h.class k.classes)) k.classes;
+              (drawn_class s.shares terms.limits terms.closed (Restored h.class) h.second.0 (pick h.class k.classes)) k.classes;
         }
         ≡ drawn_if s.shares h k
     unfolding class_of drawn_class drawn draw_says
-    drawn_is k x y =
-        rw (x, y)
+    drawn_is k x =
+        rw x
         (by_test (granted (draw_test s.shares k.limits k.closed (Restored h.class) h.second.0 (pick h.class k.classes).places))
         (λ z. rw z) (λ z. rw z (ap (λ (m : Each Held). record { limits = k.limits; closed = k.closed; classes = m }) (swap_own h.class k.classes))))
 
@@ -75,14 +75,14 @@ module _ (s : Settings) (r : ℕ) (q : r < s.registers) (h : Head) (ws : List �
         by_test (may_draw s.shares h k)
         (λ z. rw z (drawn_ok s.shares (Restored h.class) h.second.0 k (pairs_some s.shares (fit_shares s w.fit)) short z ok)) (λ z. rw z ok)
 
-    says_is : (k : Book) → limits ≡ k.limits → closed ≡ k.closed
-        → granted (draw_test s.shares limits closed (Restored h.class) h.second.0 (pick h.class k.classes).places) ≡ may_draw s.shares h k
+    says_is : (k : Book) → terms ≡ record { limits = k.limits; closed = k.closed }
+        → granted (draw_test s.shares terms.limits terms.closed (Restored h.class) h.second.0 (pick h.class k.classes).places) ≡ may_draw s.shares h k
     unfolding class_of draw_says
-    says_is k x y = rw (x, y)
+    says_is k x = rw x
 
     pub draw_acts : Suits s r h → (last : List ℕ) (d : Draw) (v : Bool)
-        → ClassTurns s.shares (class_of (Restored h.class)) (drawn_class s.shares limits closed (Restored h.class) h.second.0)
-        (λ x. draw_test s.shares limits closed (Restored h.class) h.second.0 x.places) (mid_of a (e - a) ws) last d → v ≡ granted d
+        → ClassTurns s.shares (class_of (Restored h.class)) (drawn_class s.shares terms.limits terms.closed (Restored h.class) h.second.0)
+        (λ x. draw_test s.shares terms.limits terms.closed (Restored h.class) h.second.0 x.places) (mid_of a (e - a) ws) last d → v ≡ granted d
         → RunWords s (put_mid a (e - a) ws last)
         × Acts s r (λ reg k. reg) (λ reg k. drawn_if s.shares h k) (λ reg k. may_draw s.shares h k) ws (put_mid a (e - a) ws last) v
     unfolding class_of
@@ -90,15 +90,14 @@ module _ (s : Settings) (r : ℕ) (q : r < s.registers) (h : Head) (ws : List �
         let acts : Acts s r (λ reg k. reg) (λ reg k. drawn_if s.shares h k) (λ reg k. may_draw s.shares h k) ws (put_mid a (e - a) ws last) v = record {
           does = λ x reg k n.
               let y = (class_turns s h.class a e start end t).does (put r reg k x) n.ok n.words in
-              let m = limits_says s ws w limits closed l c (put r reg k x) n.ok n.words in
-              let o = closed_says s ws w limits closed l c (put r reg k x) n.ok n.words in
+              let m = terms_say s ws w terms front (put r reg k x) n.ok n.words in
               let b = drawn_fine u k (book_in s (put r reg k x) n.ok) in (
                 record {
                   there = n.there;
                   ok = with_book_ok s (drawn_if s.shares h k) (put r reg k x) b n.ok;
-                  words = y.0 ∙ ap (λ (z : Book). (state_form s).enc (put r reg z x)) (drawn_is k m o);
+                  words = y.0 ∙ ap (λ (z : Book). (state_form s).enc (put r reg z x)) (drawn_is k m);
                 },
-                g ∙ ap granted y.1 ∙ says_is k m o,
+                g ∙ ap granted y.1 ∙ says_is k m,
               );
         } in
         (acts_words s r q ws (put_mid a (e - a) ws last) w acts, acts)

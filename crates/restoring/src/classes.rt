@@ -7,54 +7,48 @@ ghost use Rattle.restoring.specs.Rules.{RestoreActs, one_restored, class_restore
 
 use crate::heads::Head;
 use crate::holding;
+use dump::Reader;
 use model::Class;
 use numbers::spans;
 use taking::OneRegister;
 
-// Whether all was held so far, and the word position that comes next. It is no Result: there is a next position either way.
-#[derive(Clone, Copy)]
-pub struct Done {
-    pub whole: bool,
-    pub next: usize,
-}
-
-// The generation at a word position.
-fn restore_at(run: &mut [u64], on: &OneRegister, class: Class, bytes: &[u8], at: usize) -> Done
-    requires { RunWords on.now.s run.old × (next_at (words_of bytes.now) at ≤ length bytes.now / 8) }
-    ensures { RunWords on.now.s run.new × ((result.next ≡ next_at (words_of bytes.now) at) × RestoreActs on.now.s on.now.r (one_restored on.now.s on.now.r class (dumped_at (words_of bytes.now) at)) run.old run.new result.whole) }
+// The generation that comes next. Returns whether all of it is held.
+fn restore_at(run: &mut [u64], on: &OneRegister, class: Class, reader: &mut Reader<'_>) -> bool
+    requires { RunWords on.now.s run.old × (next_at (words_of reader.old.bytes.now) reader.old.at ≤ length reader.old.bytes.now / 8) }
+    ensures acts { RunWords on.now.s run.new × RestoreActs on.now.s on.now.r (one_restored on.now.s on.now.r class (dumped_at (words_of reader.old.bytes.now) reader.old.at)) run.old run.new result }
+    ensures same_bytes { reader.new.bytes ≡ reader.old.bytes }
+    ensures next { reader.new.at ≡ next_at (words_of reader.old.bytes.now) reader.old.at }
 {
-    let found = dump::generation_at(bytes, at);
+    let found = reader.generation();
     let h = Head {
         class,
         bucket: found.bucket,
         newest: found.newest,
         second: spans::second_of(found.bucket, on.extent.u.bucket),
     };
-    let whole = holding::restore_generation(run, on, h, bytes, at, found.length);
-    Done {
-        whole,
-        next: found.next,
-    }
+    // A copy of the reader: a generation that fails is read in part, and passed as a whole.
+    let whole = holding::restore_generation(run, on, h, *reader, found.length);
+    reader.skip(found.length);
+    whole
 }
 
-// The class at a word position.
+// The class that comes next. Returns whether all of it is held, and all before it.
 pub fn restore_class(
     run: &mut [u64],
     on: &OneRegister,
     class: Class,
-    bytes: &[u8],
-    from: usize,
+    reader: &mut Reader<'_>,
     before: bool,
-) -> Done
-    requires { RunWords on.now.s run.old × ClassWalks bytes.now from (class_end (words_of bytes.now) from) }
-    ensures { RunWords on.now.s run.new × ((result.next ≡ class_end (words_of bytes.now) from) × RestoreActs on.now.s on.now.r (class_restored on.now.s on.now.r class (class_dumped (words_of bytes.now) from) before) run.old run.new result.whole) }
+) -> bool
+    requires { RunWords on.now.s run.old × ClassWalks reader.old.bytes.now reader.old.at (class_end (words_of reader.old.bytes.now) reader.old.at) }
+    ensures acts { let ds = class_dumped (words_of reader.old.bytes.now) reader.old.at in
+        RunWords on.now.s run.new × RestoreActs on.now.s on.now.r (class_restored on.now.s on.now.r class ds before) run.old run.new result }
+    ensures same_bytes { reader.new.bytes ≡ reader.old.bytes }
+    ensures next { reader.new.at ≡ class_end (words_of reader.old.bytes.now) reader.old.at }
 {
-    let mut next = from + 1;
     let mut whole = before;
-    for _generation in 0..dump::count_at(bytes, from) {
-        let done = restore_at(run, on, class, bytes, next);
-        whole = done.whole & whole;
-        next = done.next;
+    for _generation in 0..reader.word() {
+        whole = restore_at(run, on, class, reader) & whole;
     }
-    Done { whole, next }
+    whole
 }

@@ -7,8 +7,8 @@ ghost use Rattle.restoring.specs.Rules.{Suits, may_draw, drawn_if};
 ghost use Rattle.restoring.specs.Words.{Acts};
 
 use crate::heads::Head;
-use book::{decide, front};
-use model::Deliverer;
+use book::front::Terms;
+use model::{Deliverer, Draw};
 use numbers::{layout, starts};
 use taking::OneRegister;
 
@@ -17,13 +17,11 @@ pub fn draw(run: &mut [u64], on: &OneRegister, h: Head) -> bool
     requires { RunWords on.now.s run.old × Suits on.now.s on.now.r h }
     ensures { RunWords on.now.s run.new × Acts on.now.s on.now.r (λ reg k. reg) (λ reg k. drawn_if on.now.s.shares h k) (λ reg k. may_draw on.now.s.shares h k) run.old run.new result }
 {
-    let limits = front::kept_limits(&run[0..layout::FRONT]);
-    let closed = front::is_closed(&run[0..layout::FRONT]);
-    let a = starts::class_start(on.s, h.class);
-    let e = a + starts::class_width(on.s.shares);
+    let terms = Terms::read(&run[0..layout::FRONT]);
     let who = Deliverer::Restored(h.class);
-    let answer = book::take(&mut run[a..e], on.s.shares, limits, closed, who, h.second);
-    decide::is_granted(answer)
+    let class = starts::class_extent(on.s, h.class);
+    let answer = book::take(&mut run[class], on.s.shares, terms, who, h.second);
+    matches!(answer, Draw::Granted)
 }
 
 // Such a draw is given back.
@@ -31,12 +29,7 @@ pub fn give_back(run: &mut [u64], on: &OneRegister, h: Head)
     requires { RunWords on.now.s run.old }
     ensures { RunWords on.now.s run.new × Acts on.now.s on.now.r (λ reg k. reg) (λ reg k. undrawn (Restored h.class) h.second.0 k) (λ reg. silent) run.old run.new (tt {0}) }
 {
-    let a = starts::class_start(on.s, h.class);
-    let e = a + starts::class_width(on.s.shares);
-    book::untake(
-        &mut run[a..e],
-        on.s.shares,
-        Deliverer::Restored(h.class),
-        h.second,
-    );
+    let who = Deliverer::Restored(h.class);
+    let class = starts::class_extent(on.s, h.class);
+    book::untake(&mut run[class], on.s.shares, who, h.second);
 }

@@ -8,8 +8,8 @@ ghost use Rattle.restoring.specs.Rules.{room_in, fits_in, held_in};
 ghost use Rattle.restoring.specs.Words.{Acts};
 
 use crate::heads::Head;
-use model::{Room, Usable};
-use numbers::spans;
+use model::{Fingerprint, Room, Usable};
+use register::Entry;
 use taking::OneRegister;
 
 // A fingerprint in a register's own words: struck where there is room for it.
@@ -17,11 +17,16 @@ fn hold_in(part: &mut [u64], u: Usable, h: Head, fp: u64) -> bool
     requires { RegisterWords u part.old }
     ensures { RegisterTurns u (held_in u h fp) (λ reg. fits_in (room_in u h fp reg)) part.old part.new result }
 {
-    let print = spans::as_read(fp);
+    let print = Fingerprint::from(fp);
     let Room::At(position) = register::room(part, u, h.class, h.bucket, print) else {
         return false;
     };
-    register::strike(part, u, h.class, position, h.bucket, print, h.newest);
+    let entry = Entry {
+        bucket: h.bucket,
+        fp: print,
+        stamp: h.newest,
+    };
+    register::strike(part, u, h.class, position, entry);
     true
 }
 
@@ -30,7 +35,7 @@ pub fn hold(run: &mut [u64], on: &OneRegister, h: Head, fp: u64) -> bool
     requires { RunWords on.now.s run.old }
     ensures { RunWords on.now.s run.new × Acts on.now.s on.now.r (λ reg k. held_in (usable_at on.now.s on.now.r) h fp reg) (λ reg k. k) (λ reg k. fits_in (room_in (usable_at on.now.s on.now.r) h fp reg)) run.old run.new result }
 {
-    hold_in(&mut run[on.extent.start..on.extent.end], on.extent.u, h, fp)
+    hold_in(&mut run[on.words()], on.extent.u, h, fp)
 }
 
 // A generation failed: what its position holds of its bucket is dropped, and the floor rises to the larger of the newest stamp that
@@ -40,7 +45,7 @@ pub fn fail(run: &mut [u64], on: &OneRegister, h: Head)
     ensures { RunWords on.now.s run.new × Acts on.now.s on.now.r (λ reg k. failed_at h.class h.bucket.0 h.newest reg) (λ reg k. k) (λ reg. silent) run.old run.new (tt {0}) }
 {
     register::fail(
-        &mut run[on.extent.start..on.extent.end],
+        &mut run[on.words()],
         on.extent.u,
         h.class,
         h.bucket,
@@ -53,7 +58,7 @@ pub fn forget_floor(run: &mut [u64], on: &OneRegister)
     requires { RunWords on.now.s run.old }
     ensures { RunWords on.now.s run.new × Acts on.now.s on.now.r (λ reg k. floor_gone reg) (λ reg k. k) (λ reg. silent) run.old run.new (tt {0}) }
 {
-    register::forget_floor(&mut run[on.extent.start..on.extent.end]);
+    register::forget_floor(&mut run[on.words()]);
 }
 
 // The floor is raised to another, if there is one.
@@ -61,5 +66,5 @@ pub fn raise_floor(run: &mut [u64], on: &OneRegister, floor: Option<u64>)
     requires { RunWords on.now.s run.old }
     ensures { RunWords on.now.s run.new × Acts on.now.s on.now.r (λ reg k. raised_with floor reg) (λ reg k. k) (λ reg. silent) run.old run.new (tt {0}) }
 {
-    register::heading::raise_by(&mut run[on.extent.start..on.extent.end], floor);
+    register::heading::raise_by(&mut run[on.words()], floor);
 }

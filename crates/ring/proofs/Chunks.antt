@@ -52,8 +52,8 @@ module _ (S n : ℕ) (ws : List ℕ) where
           by_test (ltb i n) (λ e. ltb-true i n e)
           (λ e. let m = mul-le-mul_right w (ltb-false i n e) in let l = f.long in absurd (omega arith))
 
-      pub chunk_bounded : RingWords S n ws → Bounded x
-      chunk_bounded good = rw part_is at (place_bounded S n i below (i * w) (i * w + w) (starts_at S n i below) refl ws good)
+      pub chunk_bounded : S ≤ 1_024 → RingWords S n ws → Bounded x
+      chunk_bounded small good = rw part_is at (place_bounded S n i below (i * w) (i * w + w) (starts_at S n i below) refl small ws good)
 
       pub chunk_reads : {R : Type 0} {out : Generation → R} {r : R} → Reads (encode_generation S) (GenerationOk S n i) out x r
           → RingReads S n (λ ring. out (get_or ring i empty)) ws r

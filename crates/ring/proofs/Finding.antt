@@ -15,7 +15,7 @@ use Rattle.model.specs.Generation.{empty, among}
 use Rattle.model.specs.Register.{Ring, generation_at, holds, holds_any}
 use Rattle.model.specs.Judge.{make_room}
 use Rattle.generation.specs.declared.Generation.{Generation as Leading}
-use Rattle.generation.specs.Rules.{holds_in, room_in}
+use Rattle.generation.specs.Rules.{holds_in, room_for}
 use Rattle.generation.specs.Words.{Leads}
 use Rattle.ring.specs.Ring.{places, RingReads, StartsAt, bucket_in}
 use Rattle.ring.proofs.Positions.{place_is}
@@ -68,9 +68,8 @@ pub record LookedThrough (S n fp : ℕ) (ws : List ℕ) (size : ℕ) (rest : Lis
   pub from : From S n ws i size rest
   pub looked : Looked S n fp ws i any
 
--- ---- room, where `known` says whether the fingerprint is held
-pub room_reads : (S n b fp at : ℕ) → at ≡ b % n → {ws : List ℕ} {known : Bool} {r : Room}
-    → RingReads S n (λ ring. among fp (generation_at ring b).slots) ws known
-    → RingReads S n (λ ring. room_in known b at S (generation_at ring b)) ws r → RingReads S n (make_room S b fp) ws r
+-- ---- room
+pub room_reads : (S n b fp at : ℕ) → at ≡ b % n → {ws : List ℕ} {r : Room}
+    → RingReads S n (λ ring. room_for fp b at S (generation_at ring b)) ws r → RingReads S n (make_room S b fp) ws r
 unfolding make_room
-room_reads S n b fp at p k t = reads_as t (λ ring ok is q. q ∙ rw (k.says ring ok is, p, ok.0))
+room_reads S n b fp at p t = reads_as t (λ ring ok is q. q ∙ rw (p, ok.0))

@@ -1,5 +1,5 @@
 -- The position of a bucket in a ring's words: what is seen there is seen of the ring, and what is put there is put into it.
-use Prim.Native.Nat.{ℕ, ◌+◌, ◌-◌, ◌*◌, ◌%◌, ◌<◌}
+use Prim.Native.Nat.{ℕ, ◌+◌, ◌-◌, ◌*◌, ◌%◌, ◌<◌, ◌≤◌}
 use mathlib.Core.Path.{◌≡◌, refl, ap, ◌∙◌}
 use mathlib.Core.Bool.{true}
 use mathlib.Core.List.{List}
@@ -20,15 +20,15 @@ use Rattle.model.proofs.GenerationWords.{generation_exact}
 use Rattle.model.proofs.RingsKept.{Placed}
 use Rattle.generation.specs.Words.{Bounded}
 use Rattle.generation.proofs.Looking.{bounded}
-use Rattle.ring.specs.Ring.{places, RingReads, RingTurns, Sized, RingWords, StartsAt}
+use Rattle.ring.specs.Ring.{places, RingReads, RingTurns, RingWords, StartsAt}
 
 module _ (S n : ℕ) where
   pub ring_exact : Exact (places S n)
   ring_exact = many_exact (generation_place S n) (generation_exact S n) n
 
   -- sound words are those of a ring
-  pub sound_words : (ws : List ℕ) → Sized S n ws → test_all (generation_place S n) 0 n ws ≡ true → RingWords S n ws
-  sound_words ws s t = record { sized = s; is = sound_is (places S n) ring_exact ws s.long t }
+  pub sound_words : (ws : List ℕ) → length ws ≡ n * generation_width S → test_all (generation_place S n) 0 n ws ≡ true → RingWords S n ws
+  sound_words ws long t = record { long = long; is = sound_is (places S n) ring_exact ws long t }
 
   pub starts_at : (i : ℕ) → i < n → StartsAt S n i (i * generation_width S)
   starts_at i h = record { start = refl; within = inside n i (generation_width S) h }
@@ -42,11 +42,11 @@ module _ (S n : ℕ) where
         → GenerationOk S n i (get_or ring i empty) × (mid_of a (e - a) ws ≡ encode_generation S (get_or ring i empty))
     place_is ws ring ok is = (here.lies.fine ring ok, lies_at here.lies a e at.start he ring ok ws is)
 
-    pub place_bounded : (ws : List ℕ) → RingWords S n ws → Bounded (mid_of a (e - a) ws)
-    place_bounded ws w =
+    pub place_bounded : S ≤ 1_024 → (ws : List ℕ) → RingWords S n ws → Bounded (mid_of a (e - a) ws)
+    place_bounded small ws w =
         let v = w.is in
         let p = place_is ws v.value v.ok v.words in
-        bounded S n i (get_or v.value i empty) p.0 w.sized.small (mid_of a (e - a) ws) p.1
+        bounded S n i (get_or v.value i empty) p.0 small (mid_of a (e - a) ws) p.1
 
     pub place_reads : {R : Type 0} {out : Generation → R} {ws : List ℕ} {r : R}
         → Reads (encode_generation S) (GenerationOk S n i) out (mid_of a (e - a) ws) r → RingReads S n (λ ring. out (get_or ring i empty)) ws r
@@ -81,8 +81,7 @@ module _ (S n : ℕ) where
   turned t w ok =
       let v = w.is in
       let d = (t.does v.value v.ok v.words).0 in
-      let s = w.sized in
       record {
-        sized = record { some = s.some; few = s.few; small = s.small; long = ap length d ∙ ring_exact.width _ ok };
+        long = ap length d ∙ ring_exact.width _ ok;
         is = record { value = _; ok = ok; words = d };
       }

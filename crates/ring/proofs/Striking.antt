@@ -1,8 +1,7 @@
 -- A fingerprint is inserted at the position where room was found; a bucket's generation is dropped.
-use Prim.Native.Nat.{ℕ, ◌+◌, ◌-◌, ◌%◌, ◌<◌}
+use Prim.Native.Nat.{ℕ, ◌+◌, ◌-◌, ◌%◌, ◌<◌, ◌≤◌}
 use native.Mathlib.Nat.{mod-lt}
 use mathlib.Core.Path.{◌≡◌, sym, ap, ◌∙◌}
-use mathlib.Core.Bool.{Bool}
 use mathlib.Core.List.{List}
 use lib.ListN.{length, get_or}
 use lib.Seq.{set-get_or}
@@ -19,7 +18,7 @@ use Rattle.model.specs.Judge.{make_room}
 use Rattle.model.specs.Dump.{drop_bucket}
 use Rattle.model.proofs.RingsKept.{room_at, insert_in_ok, drop_ok}
 use Rattle.generation.specs.Rules.{dropped_in, drop_in_says}
-use Rattle.generation.specs.Words.{Roomy, GenerationReads}
+use Rattle.generation.specs.Words.{RoomyFor}
 use Rattle.std.specs.Prelude.{Option}
 use Rattle.generation.proofs.Looking.{roomy}
 use Rattle.ring.specs.Ring.{places, RingReads, RingTurns, RingWords, StartsAt, inserted_in, drop_bucket_says}
@@ -36,25 +35,25 @@ module _ (S n b fp at : ℕ) (ws : List ℕ) (w : RingWords S n ws) (room : Ring
   pub found_position : at ≡ b % n
   found_position = let v = w.is in (room_at S b fp at v.value said).here ∙ rw v.ok.0
 
-  pub found_within : at < n
-  found_within = rw found_position (mod-lt b w.sized.some)
+  pub found_within : 0 < n → at < n
+  found_within some = rw found_position (mod-lt b some)
 
-  pub found_room : (a e : ℕ) (start : StartsAt S n at a) (he : e ≡ a + generation_width S) (known : Bool)
-      → GenerationReads (λ S g. among fp g.slots) (mid_of a (e - a) ws) known → Roomy known (mid_of a (e - a) ws)
-  found_room a e start he known t =
-      let v = w.is in
-      let p = place_is S n at found_within a e start he ws v.value v.ok v.words in
-      let g = get_or v.value at empty in
-      let same : g ≡ struck = rw (found_position, v.ok.0) in
-      let k : known ≡ among fp g.slots = (t S n at).says g p.0 p.1 in
-      roomy S g known (rw (k, same) (room_at S b fp at v.value said).fits) (mid_of a (e - a) ws) p.1
+  pub found_room : 0 < n → (a e : ℕ) (start : StartsAt S n at a) (he : e ≡ a + generation_width S) → RoomyFor fp (mid_of a (e - a) ws)
+  found_room some a e start he = record {
+    room = λ known t.
+        let v = w.is in
+        let p = place_is S n at (found_within some) a e start he ws v.value v.ok v.words in
+        let g = get_or v.value at empty in
+        let same : g ≡ struck = rw (found_position, v.ok.0) in
+        let k : known ≡ among fp g.slots = (t S n at).says g p.0 p.1 in
+        roomy S g known (rw (k, same) (room_at S b fp at v.value said).fits) (mid_of a (e - a) ws) p.1;
+  }
 
-  pub inserted_words : (stamp : ℕ) {last : List ℕ} → RingTurns S n (inserted_in b fp stamp) silent ws last tt → 0 < fp → RingWords S n last
-  inserted_words stamp t pos =
+  pub inserted_words : 0 < n → S ≤ 1_024 → (stamp : ℕ) {last : List ℕ} → RingTurns S n (inserted_in b fp stamp) silent ws last tt → 0 < fp → RingWords S n last
+  inserted_words some small stamp t pos =
       let v = w.is in
-      let s = w.sized in
       turned S n t w
-      (of_placed S n _ (insert_in_ok S n b fp stamp at v.value s.small s.some pos said (placed S n v.value v.ok)))
+      (of_placed S n _ (insert_in_ok S n b fp stamp at v.value small some pos said (placed S n v.value v.ok)))
 
 -- ---- a bucket's generation is dropped
 module _ (S n b : ℕ) where

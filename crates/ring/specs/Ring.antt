@@ -10,7 +10,6 @@ use Rattle.model.specs.GenerationWords.{generation_place}
 use Rattle.model.specs.Register.{Ring, generation_at, with_generation}
 use Rattle.model.specs.Generation.{empty, insert}
 use Rattle.generation.specs.Rules.{drop_in_says}
-use Rattle.ring.specs.declared.Place.{Place}
 
 -- the form of a ring: `ring_form u` has its S and n from a register's settings
 abbrev pub places : ℕ → ℕ → Form Ring
@@ -23,16 +22,9 @@ RingReads S n out ws r = Reads (places S n).enc (places S n).Ok out ws r
 abbrev pub RingTurns : {R : Type 0} → ℕ → ℕ → (Ring → Ring) → (Ring → R) → List ℕ → List ℕ → R → Type 0
 RingTurns S n f out before after r = Turns (places S n).enc (places S n).Ok f out before after r
 
--- the sizes of a ring and of its run, as plain bounds
-pub record Sized (S n : ℕ) (ws : List ℕ) : Type 0 where
-  pub some : 0 < n
-  pub few : n ≤ 256
-  pub small : S ≤ 1_024
-  pub long : length ws ≡ n * generation_width S
-
--- words of that size which are those of a well-formed ring
+-- words of a ring's size which are those of a well-formed one
 pub record RingWords (S n : ℕ) (ws : List ℕ) : Type 0 where
-  pub sized : Sized S n ws
+  pub long : length ws ≡ n * generation_width S
   pub is : Is (places S n).enc (places S n).Ok ws
 
 -- bucket b has position r of n
@@ -46,9 +38,9 @@ pub record StartsAt (S n i r : ℕ) : Type 0 where
   pub within : r + generation_width S ≤ n * generation_width S
 
 -- and its words are as many as a generation's
-pub record PlaceAt (S n i : ℕ) (p : Place) : Type 0 where
-  pub start : StartsAt S n i p.start
-  pub end : p.end ≡ p.start + generation_width S
+pub record PlaceAt (S n i a e : ℕ) : Type 0 where
+  pub start : StartsAt S n i a
+  pub end : e ≡ a + generation_width S
 
 -- the bucket of the generation at position i
 abbrev pub bucket_in : ℕ → Ring → ℕ

@@ -3,10 +3,11 @@
 // are refused.
 #![tactic(auto)]
 
-ghost use Rattle.std.specs.Prelude.{◌≡◌, true, ◌<◌};
+ghost use Rattle.std.specs.Prelude.{◌≡◌, true};
 ghost use Rattle.ring.specs.Ring.{RingWords};
 
-use model::{Bucket, Room};
+use generation::Entry;
+use model::{Bucket, Fingerprint, Room};
 use numbers::layout;
 use ring::{Buckets, Shape};
 use std::io;
@@ -18,7 +19,8 @@ const WIDTH: usize = 4 + layout::GENERATION_HEAD;
 
 const WORDS: usize = 3 * WIDTH;
 
-// The answer's code, then the words. generation_try has these lines too: no crate that both use prints, and one for them would be longer.
+// The answer's number, then the words. generation_try has this, `number`, `show_strike` and `show_sweep` too: no crate that both use
+// prints, and one for them would be longer.
 fn show(rt: &impl Print, says: u64, words: &[u64]) -> io::Result<()> {
     print!(rt; "{says}:")?;
     for word in words {
@@ -34,97 +36,127 @@ fn is_ring(words: &[u64]) -> bool
     words.len() == WORDS && ring::is_sound(words, SHAPE)
 }
 
-// Inserts a fingerprint: 1 where it did, 2 where another bucket is held, 3 where there is no room, and 0 for unsound words.
-fn strike(words: &mut [u64], bucket: Bucket, fp: u64, stamp: u64) -> u64
-    requires { 0 < fp }
-{
-    if !is_ring(words) {
-        return 0;
-    }
-    match ring::room(words, SHAPE, bucket, fp) {
-        Room::Collides => 2,
-        Room::Full => 3,
-        Room::At(at) => {
-            ring::insert(words, SHAPE, at, bucket, fp, stamp);
-            1
-        }
-    }
+// Where a ring holds a fingerprint: in the bucket that is asked about, in another, or in none.
+enum Found {
+    Here,
+    Elsewhere,
+    Nowhere,
 }
 
-// 3 where the ring holds a fingerprint in a bucket, 2 where it does in another, and 0 where in none or for unsound words.
-fn look(words: &[u64], bucket: Bucket, fp: u64) -> u64
-    requires { 0 < fp }
-{
+// Inserts a fingerprint if there is room. Answers the room that was found, and none for unsound words.
+fn strike(words: &mut [u64], bucket: Bucket, fp: Fingerprint, stamp: u64) -> Option<Room> {
     if !is_ring(words) {
-        return 0;
+        return None;
     }
-    let at = ring::position(bucket, SHAPE.ring);
-    let here = ring::contains_at(words, SHAPE, at, bucket, fp);
+    let room = ring::room(words, SHAPE.position_of(bucket), fp);
+    if let Room::At(at) = room {
+        ring::insert(words, SHAPE, at, Entry { bucket, fp, stamp });
+    }
+    Some(room)
+}
+
+// Where the ring holds a fingerprint; unsound words hold none.
+fn look(words: &[u64], bucket: Bucket, fp: Fingerprint) -> Found {
+    if !is_ring(words) {
+        return Found::Nowhere;
+    }
+    let here = ring::contains_at(words, SHAPE.position_of(bucket), fp);
     let any = ring::contains_any(words, SHAPE, fp);
     if here {
-        3
+        Found::Here
     } else if any {
-        2
+        Found::Elsewhere
     } else {
-        0
+        Found::Nowhere
     }
 }
 
-// The newest stamp that went, or 0.
-fn drop_bucket(words: &mut [u64], bucket: Bucket) -> u64 {
+// Drops a bucket. Answers the newest stamp that went, if any did; nothing goes of unsound words.
+fn drop_bucket(words: &mut [u64], bucket: Bucket) -> Option<u64> {
     if !is_ring(words) {
-        return 0;
+        return None;
     }
-    ring::drop_bucket(words, SHAPE, bucket).unwrap_or(0)
+    ring::drop_bucket(words, SHAPE, bucket)
+}
+
+// The same of a sweep: a function for both would be passed the one call in which they differ, and be no shorter.
+fn sweep(words: &mut [u64], buckets: Buckets) -> Option<u64> {
+    if !is_ring(words) {
+        return None;
+    }
+    ring::sweep(words, SHAPE, buckets)
+}
+
+// 1 where a fingerprint was inserted, 2 where another bucket is held, 3 where there is no room, and 0 for unsound words.
+fn number(room: Option<Room>) -> u64 {
+    match room {
+        Some(Room::At(_)) => 1,
+        Some(Room::Collides) => 2,
+        Some(Room::Full) => 3,
+        None => 0,
+    }
+}
+
+fn found_number(found: Found) -> u64 {
+    match found {
+        Found::Here => 3,
+        Found::Elsewhere => 2,
+        Found::Nowhere => 0,
+    }
+}
+
+// Inserts a fingerprint, and prints what became of it.
+fn show_strike(
+    rt: &impl Print,
+    words: &mut [u64],
+    bucket: u64,
+    fp: u64,
+    stamp: u64,
+) -> io::Result<()> {
+    let room = strike(words, Bucket(bucket), Fingerprint::from(fp), stamp);
+    show(rt, number(room), words)
+}
+
+// Prints where the ring holds a fingerprint.
+fn show_look(rt: &impl Print, words: &[u64], bucket: u64, fp: u64) -> io::Result<()> {
+    let found = look(words, Bucket(bucket), Fingerprint::from(fp));
+    show(rt, found_number(found), words)
+}
+
+// Drops a bucket, and prints the newest that went, or 0.
+fn show_drop(rt: &impl Print, words: &mut [u64], bucket: u64) -> io::Result<()> {
+    let went = drop_bucket(words, Bucket(bucket));
+    show(rt, went.unwrap_or(0), words)
 }
 
 // The same of a sweep.
-fn sweep(words: &mut [u64], from: u64, through: u64) -> u64 {
-    if !is_ring(words) {
-        return 0;
-    }
+fn show_sweep(rt: &impl Print, words: &mut [u64], from: u64, through: u64) -> io::Result<()> {
     let buckets = Buckets {
         from: Bucket(from),
         through: Bucket(through),
     };
-    ring::sweep(words, SHAPE, buckets).unwrap_or(0)
+    let went = sweep(words, buckets);
+    show(rt, went.unwrap_or(0), words)
 }
 
 fn main(rt: HostRuntime) -> io::Result<()> {
     let mut words = [0u64; WORDS];
-    let mut says = strike(&mut words, Bucket(6), 7, 100);
-    show(&rt, says, &words)?;
-    says = strike(&mut words, Bucket(7), 7, 300);
-    show(&rt, says, &words)?;
-    says = strike(&mut words, Bucket(8), 5, 200);
-    show(&rt, says, &words)?;
-    says = strike(&mut words, Bucket(9), 5, 200);
-    show(&rt, says, &words)?;
-    says = strike(&mut words, Bucket(6), 11, 90);
-    show(&rt, says, &words)?;
-    says = strike(&mut words, Bucket(6), 12, 90);
-    show(&rt, says, &words)?;
-    says = strike(&mut words, Bucket(6), 13, 90);
-    show(&rt, says, &words)?;
-    says = strike(&mut words, Bucket(6), 12, 80);
-    show(&rt, says, &words)?;
-    says = look(&words, Bucket(6), 7);
-    show(&rt, says, &words)?;
-    says = look(&words, Bucket(8), 7);
-    show(&rt, says, &words)?;
-    says = look(&words, Bucket(8), 9);
-    show(&rt, says, &words)?;
-    says = drop_bucket(&mut words, Bucket(9));
-    show(&rt, says, &words)?;
-    says = drop_bucket(&mut words, Bucket(8));
-    show(&rt, says, &words)?;
-    says = sweep(&mut words, 5, 7);
-    show(&rt, says, &words)?;
-    says = strike(&mut words, Bucket(9), 5, 400);
-    show(&rt, says, &words)?;
-    says = sweep(&mut words, 7, 10);
-    show(&rt, says, &words)?;
+    show_strike(&rt, &mut words, 6, 7, 100)?;
+    show_strike(&rt, &mut words, 7, 7, 300)?;
+    show_strike(&rt, &mut words, 8, 5, 200)?;
+    show_strike(&rt, &mut words, 9, 5, 200)?;
+    show_strike(&rt, &mut words, 6, 11, 90)?;
+    show_strike(&rt, &mut words, 6, 12, 90)?;
+    show_strike(&rt, &mut words, 6, 13, 90)?;
+    show_strike(&rt, &mut words, 6, 12, 80)?;
+    show_look(&rt, &words, 6, 7)?;
+    show_look(&rt, &words, 8, 7)?;
+    show_look(&rt, &words, 8, 9)?;
+    show_drop(&rt, &mut words, 9)?;
+    show_drop(&rt, &mut words, 8)?;
+    show_sweep(&rt, &mut words, 5, 7)?;
+    show_strike(&rt, &mut words, 9, 5, 400)?;
+    show_sweep(&rt, &mut words, 7, 10)?;
     words[2 * WIDTH + layout::GENERATION_HEAD] = 5;
-    says = strike(&mut words, Bucket(6), 5, 1);
-    show(&rt, says, &words)
+    show_strike(&rt, &mut words, 6, 5, 1)
 }

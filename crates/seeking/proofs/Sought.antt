@@ -1,32 +1,31 @@
 -- The whole list was tried after the sweep that was seen: what is left is the stamp that the rules give. Assumes nothing.
-use Prim.Native.Nat.{ℕ}
+use Prim.Native.Nat.{ℕ, ◌+◌, ◌<◌, ◌≤◌}
+use native.Mathlib.Numerals.{add-one}
 use mathlib.Core.Path.{◌≡◌, refl, sym, ◌∙◌, ap}
 use mathlib.Core.Bool.{Bool}
 use mathlib.Core.List.{List, [], ◌∷◌, ◌++◌}
+use lib.ListN.{get_or, drop, drop_of_length-le}
+use lib.Seq.{drop-cons}
 use Rattle.std.specs.Prelude.{Option, None}
+use Rattle.model.specs.declared.Class.{Class}
 use Rattle.model.specs.declared.Class.TheVariants.{Feeders, Peers, Own}
-use Rattle.model.specs.declared.Settings.{Settings}
 use Rattle.model.specs.declared.Usable.{Usable}
-use Rattle.model.specs.declared.Verdict.{Verdict}
-use Rattle.model.specs.Settings.{usable_at}
 use Rattle.model.specs.Codes.{same_verdict}
 use Rattle.model.specs.Register.{Register, sweep}
 use Rattle.model.specs.Judge.{Ask, window_for}
 use Rattle.model.specs.Reason.{rules, first_rule, reason, batch_verdict}
 use Rattle.model.specs.Stamp.{batch_at, edge_stamps, window_stamps, ring_stamps, stamps, better, least_from, stamp_for}
-use Rattle.model.specs.Words.{State}
+use Rattle.model.specs.Words.{State, state_form}
 use Rattle.model.specs.Calls.{register_at}
 use Rattle.model.proofs.Reasons.{batch_says}
-use Rattle.numbers.specs.declared.starts.RegisterExtent.{RegisterExtent}
-use Rattle.numbers.specs.RegisterAt.{RegisterAt}
-use Rattle.register.specs.declared.judging.Ask.{Ask as Asked}
 use Rattle.register.specs.declared.peeking.Seen.{Seen}
 use Rattle.register.specs.Rules.{asked_by}
 use Rattle.register.specs.Seen.{left_by}
+use Rattle.model.specs.Class.{classes}
 use Rattle.register.proofs.Foreseen.{left_is}
 use Rattle.taking.specs.Words.{StateReads}
 use Rattle.taking.specs.Reasons.{seen_at, reason_seen}
-use Rattle.seeking.specs.declared.asking.Quest.{Quest}
+use Rattle.seeking.specs.declared.quest.Quest.{Quest}
 use Rattle.seeking.specs.Seeking.{usable_for, asked_at, verdict_seen, gives, least_seen, edges_seen, ring_seen, sought_by}
 use Rattle.seeking.proofs.Unswept.{swept_stamps}
 
@@ -82,17 +81,35 @@ module _ (q : Quest) (t : State) where
         let feeders = swept_stamps u a.ms reg Feeders in
         rw (← same_gives, least_append, least_append, least_append, least_append, own, peers, feeders, same_floor) refl
 
--- ---- every part of the list, one after the other
-module _ (s : Settings) (r : ℕ) (extent : RegisterExtent) (at : RegisterAt s r extent) (seen : Seen) (ask : Asked) (wanted : Verdict) where
-  abbrev quest : Quest
-  quest = record { on = record { s = s; r = r; extent = extent; at = at }; seen = seen; ask = ask; wanted = wanted }
+-- ---- the rings of the classes, one after the other
+unfoldable pub rings_seen : Quest → List Class → Option ℕ → State → Option ℕ
+rings_seen q [] best t = best
+rings_seen q (c ∷ cs) best t = rings_seen q cs (ring_seen q c best t) t
 
-  pub sought_told : (ws : List ℕ) (edges window feeders peers own : Option ℕ) → StateReads s (seen_at s r ask.now.0) ws seen
-      → StateReads s (edges_seen quest) ws edges → StateReads s (least_seen quest (window_stamps (usable_at s r) ask.now.0) edges) ws window
-      → StateReads s (ring_seen quest Feeders window) ws feeders → StateReads s (ring_seen quest Peers feeders) ws peers
-      → StateReads s (ring_seen quest Own peers) ws own → StateReads s (sought_by s r (asked_by ask) wanted) ws own
-  unfolding edges_seen least_seen ring_seen
-  sought_told ws edges window feeders peers own at e w f p o = record {
-    says = λ t ok is.
-        o.says t ok is ∙ rw (p.says t ok is, f.says t ok is, w.says t ok is, e.says t ok is) (all_tried quest t (at.says t ok is));
-  }
+module _ (q : Quest) (ws : List ℕ) (first : Option ℕ) where
+  -- those from an index on are left
+  pub record Ringing (i : ℕ) (best : Option ℕ) : Type 0 where
+    pub left : (t : State) → (state_form q.on.s).Ok t → ws ≡ (state_form q.on.s).enc t → rings_seen q (drop i classes) best t ≡ rings_seen q classes first t
+
+  pub ringing_start : Ringing 0 first
+  ringing_start = record { left = λ t ok is. refl }
+
+  module _ (i : ℕ) (best : Option ℕ) (at : Ringing i best) where
+    pub ringing_on : i < 3 → (next : Option ℕ) → StateReads q.on.s (ring_seen q (get_or classes i Feeders) best) ws next → Ringing (i + 1) next
+    unfolding rings_seen
+    ringing_on h next reads = record {
+      left = λ t ok is. rw (add-one, reads.says t ok is) (rw (drop-cons classes i Feeders h) at (at.left t ok is));
+    }
+
+    pub ringing_end : 3 ≤ i → StateReads q.on.s (rings_seen q classes first) ws best
+    unfolding rings_seen
+    ringing_end h = record { says = λ t ok is. rw (drop_of_length-le classes {i = i} h) at (at.left t ok is) }
+
+-- ---- every part of the list, one after the other
+pub sought_told : (q : Quest) (ws : List ℕ) (edges window all : Option ℕ) → StateReads q.on.s (seen_at q.on.s q.on.r q.ask.now.0) ws q.seen
+    → StateReads q.on.s (edges_seen q) ws edges → StateReads q.on.s (least_seen q (window_stamps (usable_for q) q.ask.now.0) edges) ws window
+    → StateReads q.on.s (rings_seen q classes window) ws all → StateReads q.on.s (sought_by q.on.s q.on.r (asked_by q.ask) q.wanted) ws all
+unfolding edges_seen least_seen ring_seen rings_seen
+sought_told q ws edges window all at e w rings = record {
+  says = λ t ok is. rings.says t ok is ∙ rw (w.says t ok is, e.says t ok is) (all_tried q t (at.says t ok is));
+}

@@ -36,7 +36,7 @@ use Rattle.register.specs.Words.{RegisterReads}
 use Rattle.taking.proofs.InRun.{register_reads}
 use Rattle.taking.specs.Words.{StateReads}
 use Rattle.taking.specs.Reasons.{reason_seen}
-use Rattle.seeking.specs.declared.asking.Quest.{Quest}
+use Rattle.seeking.specs.declared.quest.Quest.{Quest}
 use Rattle.seeking.specs.Seeking.{usable_for, asked_at, verdict_seen, gives, better_seen, least_seen, edges_seen, around_bucket, bucket_seen, ring_seen}
 
 -- ---- the verdict at a stamp

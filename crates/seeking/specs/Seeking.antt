@@ -14,18 +14,12 @@ use Rattle.model.specs.Words.{State}
 use Rattle.model.specs.Calls.{register_at}
 use Rattle.ring.specs.Ring.{bucket_in}
 use Rattle.register.specs.Rules.{asked_by}
-use Rattle.taking.specs.Words.{RunWords}
-use Rattle.taking.specs.Reasons.{SeenAt, reason_seen}
-use Rattle.seeking.specs.declared.asking.Quest.{Quest}
+use Rattle.taking.specs.Reasons.{reason_seen}
+use Rattle.seeking.specs.declared.quest.Quest.{Quest}
 
 -- ---- what is asked about
 abbrev pub usable_for : Quest → Usable
 usable_for q = usable_at q.on.s q.on.r
-
--- the words are those that its settings need, and what was seen is what a sweep may do
-pub record Placed (q : Quest) (ws : List ℕ) : Type 0 where
-  pub run : RunWords q.on.s ws
-  pub seen : SeenAt q.on.s q.on.r q.seen
 
 -- ---- the verdict at a stamp, after the sweep that was seen
 abbrev pub asked_at : Quest → ℕ → Ask

@@ -40,7 +40,7 @@ use Rattle.strikes.proofs.OnWhole.{book_refused, book_unlisted}
 
 -- the class's words
 abbrev pub class_of_words : ClassExtent → List ℕ → List ℕ
-class_of_words p ws = mid_of p.start (p.end - p.start) ws
+class_of_words p ws = mid_of p.words.start (p.words.end - p.words.start) ws
 
 holds : (kind number : ℕ) → OnBook (HeldBy kind number)
 unfolding is_open no_such_register own_refusals
@@ -77,15 +77,15 @@ module _ {st ws : List ℕ} {c : Class} {p : ClassExtent} (at : AtClass st ws c 
   may_read : Entered (settings_of st) ws
   may_read = (vets_pass st ws at.passed).may
 
-  ends : p.end ≡ p.start + (class_form (settings_of st).shares c).wide
+  ends : p.words.end ≡ p.words.start + (class_form (settings_of st).shares c).wide
   ends = let a = at.end in omega arith
 
   class_lies : ClassIs p.shares c (class_of_words p ws)
   class_lies =
       let s = settings_of st in
       let k = length (past_words s ws) in
-      let h : p.start ≡ 0 + class_start s c = let a = at.start in omega arith in
-      let is = part_is (lent_part s k (class_part s c)).lies p.start p.end h ends (record { value = lent s ws; ok = may_read.ok; words = may_read.words }) in
+      let h : p.words.start ≡ 0 + class_start s c = let a = at.start in omega arith in
+      let is = part_is (lent_part s k (class_part s c)).lies p.words.start p.words.end h ends (record { value = lent s ws; ok = may_read.ok; words = may_read.words }) in
       subst (λ (b : Shares). ClassIs b c (class_of_words p ws)) (sym at.shares)
       (class_is s.shares c (class_of_words p ws) (fit_shares s may_read.fit) is)
 
@@ -93,7 +93,7 @@ module _ {st ws : List ℕ} {c : Class} {p : ClassExtent} (at : AtClass st ws c 
   pub totals_there : class_head ≤ length (class_of_words p ws)
   totals_there =
       let a = at.end in
-      let l : length (class_of_words p ws) ≡ p.end - p.start = mid_len p.start p.end ws at.within in
+      let l : length (class_of_words p ws) ≡ p.words.end - p.words.start = mid_len p.words.start p.words.end ws at.within in
       omega arith
 
   -- what is read of the class's words is so of the class that is held
@@ -102,7 +102,7 @@ module _ {st ws : List ℕ} {c : Class} {p : ClassExtent} (at : AtClass st ws c 
   seen_class {out} {v} reads =
       let s = settings_of st in
       let t = subst (λ (x : Shares). ClassReads x c out (class_of_words p ws) v) at.shares reads in
-      seen_part s ws may_read (λ t. pick c t.book.classes) (class_part s c) p.start p.end at.start ends t
+      seen_part s ws may_read (λ t. pick c t.book.classes) (class_part s c) p.words.start p.words.end at.start ends t
 
   told_class : (call : Call) → OnBook call → codes_fit (settings_of st) call ≡ true → {R : Type 0} {out : Held → R} {v : R} (answer : R → Answer)
       → (p.shares ≡ (settings_of st).shares → (t : State) → (step (settings_of st) call t).answer ≡ answer (out (pick c t.book.classes)))

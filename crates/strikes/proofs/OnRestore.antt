@@ -1,10 +1,8 @@
 -- A restore or a resume: refused with 7 where the dump is cut short, or carried by what is done to all needed words.
-use Prim.Native.Nat.{ℕ, ◌*◌, ◌≤◌}
-use native.Mathlib.Omega.{arith}
+use Prim.Native.Nat.{ℕ, ◌*◌}
 use mathlib.Core.Path.{◌≡◌, refl, sym, ◌∙◌, ap}
 use mathlib.Core.Bool.{Bool, true, false, cond}
 use mathlib.Core.List.{List}
-use lib.ListN.{length}
 use Rattle.std.proofs.Common.{Result, Ok, Err, Option, Some, None}
 use Rattle.std.specs.Result.{IsErrAnd}
 use Rattle.model.specs.Answer.{Answer, refusal_number}
@@ -12,7 +10,6 @@ use Rattle.model.specs.declared.Refusal.{Refusal}
 use Rattle.model.specs.declared.Refusal.TheVariants.{CutShort}
 use Rattle.model.specs.Listed.{listed}
 use Rattle.model.proofs.Refused.{listed_ok}
-use Rattle.model.specs.declared.Settings.{Settings}
 use Rattle.model.specs.Settings.{settings_of}
 use Rattle.model.specs.Codes.{flag_fits, flag_of}
 use Rattle.model.specs.Register.{Register}
@@ -21,10 +18,11 @@ use Rattle.model.specs.Dump.{words_of, read_dump}
 use Rattle.model.specs.Calls.{Deed, Restore, Resume, On, restore_refusals, is_cut, deed_refusals, deed_fits, restored, resumed, after_restored}
 use Rattle.model.specs.Calls.{done_on, refused, first_met, register_at, held_in}
 use Rattle.std.specs.Bool.{then_some}
-use Rattle.std.specs.Option.{ok_or}
-use Rattle.dump.specs.Walk.{dump_at, dump_end, lengths_of, Whole}
-use Rattle.dump.proofs.Walks.{cut, whole}
+use Rattle.std.specs.Option.{MatchOption, ok_or}
+use Rattle.dump.specs.declared.walk.Dump.{Dump}
+use Rattle.dump.specs.Walk.{dump_at, Whole}
 use Rattle.restoring.specs.Rules.{restored_whole, resumed_whole}
+use Rattle.taking.specs.declared.one_register.OneRegister.{OneRegister}
 use Rattle.taking.specs.Words.{StateTurns}
 use Rattle.strikes.specs.declared.Restored.{Restored}
 use Rattle.strikes.specs.Calls.{Told, heard, restore_answer, restored_heard}
@@ -38,8 +36,8 @@ seven : (bs : List ℕ) → read_dump bs ≡ None → first_own (restore_refusal
 unfolding first_own first_met is_cut
 seven bs e = rw e
 
--- the lengths that were read, and that there are none
-pub length_read : {B : Type 0} {x : B} (l : Option B) → ◌≡◌ {A = Result B Refusal} (Ok x) (ok_or l CutShort) → l ≡ Some x
+-- what was read, and that nothing was
+length_read : {B : Type 0} {x : B} (l : Option B) → ◌≡◌ {A = Result B Refusal} (Ok x) (ok_or l CutShort) → l ≡ Some x
 length_read None h = absurd (cc)
 length_read (Some y) h = cc
 
@@ -47,13 +45,14 @@ no_length : {B : Type 0} (l : Option B) {e : Refusal} → ◌≡◌ {A = Result 
 no_length None h = (refl, cc)
 no_length (Some y) h = absurd (cc)
 
-module _ {A : Type 0} (f : A → Answer) {st ws : List ℕ} {r n : ℕ} (by : ByRegister st ws r n) (e : Refusal) (got : Result A Refusal) (out : IsErrAnd got (λ y. y ≡ e))
-    (bs : List ℕ) {l : Option ℕ} (read : l ≡ lengths_of (read_dump bs)) (short : ◌≡◌ {A = Result ℕ Refusal} (Err e) (ok_or l CutShort)) where
+module _ {A : Type 0} (f : A → Answer) {st ws : List ℕ} {r : ℕ} {on : OneRegister} (by : ByRegister st ws r on) (e : Refusal) (got : Result A Refusal) (out : IsErrAnd got (λ y. y ≡ e))
+    (bs : List ℕ) (l : Option Dump) (read : MatchOption l (read_dump bs ≡ None) (λ d. d.bytes.now ≡ bs)) (short : ◌≡◌ {A = Result Dump Refusal} (Err e) (ok_or l CutShort)) where
   cut_short : (deed : Deed) → deed_fits deed ≡ true → ((reg : Register) → deed_refusals reg deed ≡ restore_refusals bs) → Told st ws (On r deed) (heard f got) ws
   cut_short deed fits own =
       let p = no_length l short in
+      let none : read_dump bs ≡ None = rw p.0 at read in
       let is : refused st ws (On r deed) ≡ 7 =
-      refused_now by deed fits ∙ ap first_own (own (register_at r (held_in (settings_of st) ws))) ∙ seven bs (cut bs (sym p.0 ∙ read)) in
+      refused_now by deed fits ∙ ap first_own (own (register_at r (held_in (settings_of st) ws))) ∙ seven bs none in
       told_exit f st ws (On r deed) e got out (is ∙ sym (ap refusal_number p.1))
 
   pub restore_cut : Told st ws (On r (Restore bs)) (heard f got) ws
@@ -71,16 +70,13 @@ proven_is true floor = refl
 proven_is false floor = refl
 
 -- ---- one that is whole
-module _ (bs : List ℕ) {l : Option ℕ} {long : ℕ} (read : l ≡ lengths_of (read_dump bs)) (known : l ≡ Some long) where
-  dump_there : Whole bs long
-  dump_there = whole bs long (sym known ∙ read)
+module _ (bs : List ℕ) (l : Option Dump) {d : Dump} (read : MatchOption l (read_dump bs ≡ None) (λ d. d.bytes.now ≡ bs))
+    (known : ◌≡◌ {A = Result Dump Refusal} (Ok d) (ok_or l CutShort)) where
+  pub same_bytes : d.bytes.now ≡ bs
+  same_bytes = rw (length_read l known) at read
 
-  pub whole_dump : Whole bs (dump_end (words_of bs))
-  whole_dump =
-      let w = dump_there in record { reads = w.reads; long = refl; floor = w.floor; feeders = w.feeders; peers = w.peers; own = w.own }
-
-  pub within_bytes : 8 * long ≤ length bs
-  within_bytes = let w = dump_there in let k = w.long in let i = w.own.walks.inside in omega arith
+  dump_there : Whole bs d.words
+  dump_there = rw same_bytes at d.whole
 
   -- nothing else refuses it
   not_cut : (deed : Deed) → ((reg : Register) → deed_refusals reg deed ≡ restore_refusals bs) → (r : ℕ) (t : State)
@@ -88,26 +84,27 @@ module _ (bs : List ℕ) {l : Option ℕ} {long : ℕ} (read : l ≡ lengths_of 
   unfolding first_own first_met is_cut
   not_cut deed own r t = ap first_own (own (register_at r t)) ∙ rw dump_there.reads
 
-  module _ {st ws : List ℕ} {r n : ℕ} (by : ByRegister st ws r n) {s : Settings} (own : s ≡ settings_of st) {last : List ℕ} {b : Bool}
-      (a : Restored) (told : restored_heard a ≡ restore_answer (8 * long) b) where
-    pub was_restored : StateTurns s (λ t. (restored s r t (Some (dump_at (words_of bs)))).state) (restored_whole s r (dump_at (words_of bs))) (run_of n ws) last b
-        → Told st ws (On r (Restore bs)) (restored_heard a) (put_run n ws last)
+  module _ {st ws : List ℕ} {r : ℕ} {on : OneRegister} (by : ByRegister st ws r on) {last : List ℕ} {b : Bool} (a : Restored)
+      (told : restored_heard a ≡ restore_answer (8 * d.words) b) where
+    pub was_restored : StateTurns on.s (λ t. (restored on.s on.r t (Some (dump_at (words_of d.bytes.now)))).state)
+        (restored_whole on.s on.r (dump_at (words_of d.bytes.now))) (run_of on.need ws) last b
+        → Told st ws (On r (Restore bs)) (restored_heard a) (put_run on.need ws last)
     unfolding deed_fits deed_refusals done_on restored after_restored
     was_restored turn =
         let w = dump_there in
-        rw told (told_whole by (Restore bs) refl own (not_cut (Restore bs) (λ reg. refl) r) (restore_answer (8 * long))
-        (λ t. rw (w.reads, w.long)) (λ t. rw w.reads) turn)
+        rw told (told_whole by (Restore bs) refl (not_cut (Restore bs) (λ reg. refl) r) (restore_answer (8 * d.words))
+        (λ t. rw (w.reads, w.long, by.number)) (λ t. rw (w.reads, by.number)) (rw same_bytes at turn))
 
     pub was_resumed : {p : Bool} {flag floor : ℕ} {proven : Option ℕ} → ◌≡◌ {A = Result Bool Refusal} (Ok p) (listed (flag_fits flag) (flag_of flag))
         → proven ≡ then_some p floor
-        → StateTurns s (λ t. (resumed s r t proven (Some (dump_at (words_of bs)))).state)
-        (resumed_whole s r (dump_at (words_of bs)) proven) (run_of n ws) last b
-        → Told st ws (On r (Resume bs flag floor)) (restored_heard a) (put_run n ws last)
+        → StateTurns on.s (λ t. (resumed on.s on.r t proven (Some (dump_at (words_of d.bytes.now)))).state)
+        (resumed_whole on.s on.r (dump_at (words_of d.bytes.now)) proven) (run_of on.need ws) last b
+        → Told st ws (On r (Resume bs flag floor)) (restored_heard a) (put_run on.need ws last)
     unfolding deed_fits deed_refusals done_on resumed after_restored
     was_resumed {p} {flag} {floor} {proven} flagged is turn =
         let w = dump_there in
         let q = listed_ok (flag_fits flag) flagged in
         let o : proven ≡ cond (flag_of flag) (Some floor) None =
         is ∙ proven_is p floor ∙ ap (λ (b : Bool). cond b (Some floor) None) q.1 in
-        rw told (told_whole by (Resume bs flag floor) q.0 own (not_cut (Resume bs flag floor) (λ reg. refl) r) (restore_answer (8 * long))
-        (λ t. rw (w.reads, w.long, o)) (λ t. rw (w.reads, o)) turn)
+        rw told (told_whole by (Resume bs flag floor) q.0 (not_cut (Resume bs flag floor) (λ reg. refl) r) (restore_answer (8 * d.words))
+        (λ t. rw (w.reads, w.long, o, by.number)) (λ t. rw (w.reads, o, by.number)) (rw same_bytes at turn))

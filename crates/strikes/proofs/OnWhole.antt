@@ -1,5 +1,5 @@
 -- Calls on all needed words, `words[0..need]`, and on the front, `words[0..20]`.
-use Prim.Native.Nat.{ℕ, ◌+◌, ◌-◌, ◌<◌, ◌≤◌}
+use Prim.Native.Nat.{ℕ, ◌+◌, ◌-◌, ◌≤◌}
 use native.Mathlib.Omega.{arith}
 use mathlib.Core.Path.{◌≡◌, refl, sym, ◌∙◌, ap, subst}
 use mathlib.Core.Bool.{Bool, true}
@@ -22,6 +22,8 @@ use Rattle.model.specs.Calls.{Deed, Call, On, deed_refusals, deed_fits, done_on,
 use Rattle.model.proofs.Words.{state_exact, state_wide}
 use Rattle.model.proofs.Parts.{front_part, front_of, with_front}
 use Rattle.taking.specs.Words.{RunWords, StateReads, StateTurns}
+use Rattle.taking.specs.declared.one_register.OneRegister.{OneRegister}
+use Rattle.vet.specs.declared.vetted.Vetted.{Vetted}
 use Rattle.vet.specs.Vetted.{vetted}
 use Rattle.vet.specs.Entries.{Refuses, ReadyWithin}
 use Rattle.strikes.specs.Calls.{Told, heard}
@@ -64,64 +66,64 @@ run_lies s ws need e n =
     record { fit = n.fit; long = long; least = omega (arith, long); is = is }
 
 -- ---- a call that nothing refuses, carried by what a function does to all needed words
-module _ {st ws : List ℕ} {v n : ℕ} (enters : ReadyWithin st ws v n) (may : Entered (settings_of st) ws) where
-  module _ {s : Settings} (read : s ≡ settings_of st) where
-    lies_read : RunWords s (run_of n ws)
-    lies_read = rw read (run_lies (settings_of st) ws n enters.ready.need may)
+module _ {st ws : List ℕ} {v : ℕ} {z : Vetted} (enters : ReadyWithin st ws v z) (may : Entered (settings_of st) ws) where
+  lies_read : RunWords z.s (run_of z.need ws)
+  lies_read = rw enters.ready.read (run_lies (settings_of st) ws z.need enters.ready.need may)
 
-    carried : (call : Call) → refused st ws call ≡ 0 → {R : Type 0} {f : State → State} {out : State → R} {last : List ℕ} {x : R} (answer : R → Answer)
-        → ((t : State) → (step s call t).answer ≡ answer (out t)) → ((t : State) → (step s call t).state ≡ f t)
-        → StateTurns s f out (run_of n ws) last x → Told st ws call (answer x) (put_run n ws last)
-    carried call none {f} {out} {last} {x} answer says leaves turn =
-        let own = settings_of st in
-        let w = state_wide own may.fit in
-        let d = enters.ready.need in
-        let t = subst (λ (y : Settings). StateTurns y f out (run_of n ws) last x) read turn in
-        let a = subst (λ (y : Settings). (step y call (held_in own ws)).answer ≡ answer (out (held_in own ws))) read (says (held_in own ws)) in
-        let b = subst (λ (y : Settings). (step y call (held_in own ws)).state ≡ f (held_in own ws)) read (leaves (held_in own ws)) in
-        let q = through_part st ws call none may (whole_part own) 0 n refl (omega arith) t answer a b in
-        record { answer = q.0; words = q.1 }
+  carried : (call : Call) → refused st ws call ≡ 0 → {R : Type 0} {f : State → State} {out : State → R} {last : List ℕ} {x : R} (answer : R → Answer)
+      → ((t : State) → (step z.s call t).answer ≡ answer (out t)) → ((t : State) → (step z.s call t).state ≡ f t)
+      → StateTurns z.s f out (run_of z.need ws) last x → Told st ws call (answer x) (put_run z.need ws last)
+  carried call none {f} {out} {last} {x} answer says leaves turn =
+      let own = settings_of st in
+      let read = enters.ready.read in
+      let w = state_wide own may.fit in
+      let d = enters.ready.need in
+      let t = subst (λ (y : Settings). StateTurns y f out (run_of z.need ws) last x) read turn in
+      let a = subst (λ (y : Settings). (step y call (held_in own ws)).answer ≡ answer (out (held_in own ws))) read (says (held_in own ws)) in
+      let b = subst (λ (y : Settings). (step y call (held_in own ws)).state ≡ f (held_in own ws)) read (leaves (held_in own ws)) in
+      let q = through_part st ws call none may (whole_part own) 0 z.need refl (omega arith) t answer a b in
+      record { answer = q.0; words = q.1 }
 
-    -- the same of one that only reads
-    answered : (call : Call) → refused st ws call ≡ 0 → {R : Type 0} {out : State → R} {x : R} (answer : R → Answer)
-        → ((t : State) → (step s call t).answer ≡ answer (out t)) → StateReads s out (run_of n ws) x → answer x ≡ reply st ws call
-    answered call none {out} {x} answer says reads =
-        let own = settings_of st in
-        let w = state_wide own may.fit in
-        let d = enters.ready.need in
-        let t = subst (λ (y : Settings). StateReads y out (run_of n ws) x) read reads in
-        let a = subst (λ (y : Settings). (step y call (held_in own ws)).answer ≡ answer (out (held_in own ws))) read (says (held_in own ws)) in
-        read_part st ws call none (λ (y : State). y) may (whole_part own) 0 n refl (omega arith) t answer a
+  -- the same of one that only reads
+  answered : (call : Call) → refused st ws call ≡ 0 → {R : Type 0} {out : State → R} {x : R} (answer : R → Answer)
+      → ((t : State) → (step z.s call t).answer ≡ answer (out t)) → StateReads z.s out (run_of z.need ws) x → answer x ≡ reply st ws call
+  answered call none {out} {x} answer says reads =
+      let own = settings_of st in
+      let read = enters.ready.read in
+      let w = state_wide own may.fit in
+      let d = enters.ready.need in
+      let t = subst (λ (y : Settings). StateReads y out (run_of z.need ws) x) read reads in
+      let a = subst (λ (y : Settings). (step y call (held_in own ws)).answer ≡ answer (out (held_in own ws))) read (says (held_in own ws)) in
+      read_part st ws call none (λ (y : State). y) may (whole_part own) 0 z.need refl (omega arith) t answer a
 
 -- ---- on a register
-module _ {st ws : List ℕ} {r n : ℕ} (by : ByRegister st ws r n) where
+module _ {st ws : List ℕ} {r : ℕ} {on : OneRegister} (by : ByRegister st ws r on) where
   may_run : Entered (settings_of st) ws
   may_run = (admits_pass st ws r by.enters.ready.passed).0.may
 
-  module _ {s : Settings} (read : s ≡ settings_of st) where
-    -- what a function on all needed words asks for
-    pub run_there : RunWords s (run_of n ws) × (r < s.registers)
-    run_there = (lies_read by.enters may_run read, rw read by.there)
+  -- what a function on all needed words asks for
+  pub run_there : RunWords on.s (run_of on.need ws)
+  run_there = lies_read by.enters may_run
 
   module _ (deed : Deed) (fits : deed_fits deed ≡ true) where
     pub refused_now : refused st ws (On r deed) ≡ first_own (deed_refusals (register_at r (held_in (settings_of st) ws)) deed)
     refused_now = refused_own st ws r deed fits by.enters.ready.passed
 
     -- a deed that nothing else refuses
-    pub told_whole : {s : Settings} → s ≡ settings_of st → ((t : State) → first_own (deed_refusals (register_at r t) deed) ≡ 0)
+    pub told_whole : ((t : State) → first_own (deed_refusals (register_at r t) deed) ≡ 0)
         → {R : Type 0} {f : State → State} {out : State → R} {last : List ℕ} {v : R} (answer : R → Answer)
-        → ((t : State) → (done_on s r deed t).answer ≡ answer (out t)) → ((t : State) → (done_on s r deed t).state ≡ f t)
-        → StateTurns s f out (run_of n ws) last v → Told st ws (On r deed) (answer v) (put_run n ws last)
+        → ((t : State) → (done_on on.s r deed t).answer ≡ answer (out t)) → ((t : State) → (done_on on.s r deed t).state ≡ f t)
+        → StateTurns on.s f out (run_of on.need ws) last v → Told st ws (On r deed) (answer v) (put_run on.need ws last)
     unfolding step
-    told_whole read never answer says leaves turn =
-        carried by.enters may_run read (On r deed) (refused_now ∙ never (held_in (settings_of st) ws)) answer says leaves turn
+    told_whole never answer says leaves turn =
+        carried by.enters may_run (On r deed) (refused_now ∙ never (held_in (settings_of st) ws)) answer says leaves turn
 
-    pub told_seen : {s : Settings} → s ≡ settings_of st → ((t : State) → first_own (deed_refusals (register_at r t) deed) ≡ 0)
-        → {R : Type 0} {out : State → R} {v : R} (answer : R → Answer) → ((t : State) → (done_on s r deed t).answer ≡ answer (out t))
-        → StateReads s out (run_of n ws) v → answer v ≡ reply st ws (On r deed)
+    pub told_seen : ((t : State) → first_own (deed_refusals (register_at r t) deed) ≡ 0)
+        → {R : Type 0} {out : State → R} {v : R} (answer : R → Answer) → ((t : State) → (done_on on.s r deed t).answer ≡ answer (out t))
+        → StateReads on.s out (run_of on.need ws) v → answer v ≡ reply st ws (On r deed)
     unfolding step
-    told_seen read never answer says reads =
-        answered by.enters may_run read (On r deed) (refused_now ∙ never (held_in (settings_of st) ws)) answer says reads
+    told_seen never answer says reads =
+        answered by.enters may_run (On r deed) (refused_now ∙ never (held_in (settings_of st) ws)) answer says reads
 
 -- ---- on the book
 -- refused by one of the first three refusals, or with 1 by a code that is not listed
@@ -134,23 +136,23 @@ module _ {A : Type 0} (f : A → Answer) (st ws : List ℕ) (call : Call) (e : R
       let p = listed_err x b h in
       told_exit f st ws call e got out (unlisted st ws call (sym same ∙ p.0) ∙ sym (ap refusal_number p.1))
 
-module _ {st ws : List ℕ} {n : ℕ} (enters : ReadyWithin st ws (vetted st ws) n) where
+module _ {st ws : List ℕ} {x : Vetted} (enters : ReadyWithin st ws (vetted st ws) x) where
   may_book : Entered (settings_of st) ws
   may_book = (vets_pass st ws enters.ready.passed).may
 
-  pub book_there : {s : Settings} → s ≡ settings_of st → RunWords s (run_of n ws)
-  book_there read = lies_read enters may_book read
+  pub book_there : RunWords x.s (run_of x.need ws)
+  book_there = lies_read enters may_book
 
   pub front_there : 20 ≤ length ws
   unfolding words_needed
   front_there = let l = may_book.long in omega arith
 
   module _ {call : Call} (on : OnBook call) (fits : codes_fit (settings_of st) call ≡ true) where
-    pub told_run : {s : Settings} → s ≡ settings_of st → {R : Type 0} {f : State → State} {out : State → R} {last : List ℕ} {v : R} (answer : R → Answer)
-        → ((t : State) → (step s call t).answer ≡ answer (out t)) → ((t : State) → (step s call t).state ≡ f t)
-        → StateTurns s f out (run_of n ws) last v → Told st ws call (answer v) (put_run n ws last)
-    told_run read answer says leaves turn =
-        carried enters may_book read call (book_never st ws call on fits enters.ready.passed) answer says leaves turn
+    pub told_run : {R : Type 0} {f : State → State} {out : State → R} {last : List ℕ} {v : R} (answer : R → Answer)
+        → ((t : State) → (step x.s call t).answer ≡ answer (out t)) → ((t : State) → (step x.s call t).state ≡ f t)
+        → StateTurns x.s f out (run_of x.need ws) last v → Told st ws call (answer v) (put_run x.need ws last)
+    told_run answer says leaves turn =
+        carried enters may_book call (book_never st ws call on fits enters.ready.passed) answer says leaves turn
 
     -- by what a function does to the front
     pub told_front : {R : Type 0} {f : Front → Front} {out : Front → R} {last : List ℕ} {v : R} (answer : R → Answer)

@@ -17,7 +17,7 @@ use Rattle.model.specs.declared.Refusal.TheVariants.{Unfit}
 use Rattle.model.specs.declared.Settings.{Settings}
 use Rattle.model.specs.declared.Start.{Start}
 use Rattle.model.specs.Listed.{listed}
-use Rattle.model.specs.Settings.{settings_of, settings_fit, limits_of, words_needed}
+use Rattle.model.specs.Settings.{settings_of, limits_of, words_needed}
 use Rattle.model.specs.Words.{state_form}
 use Rattle.model.specs.Calls.{Open, opened, first_met, settings_words_fit, limits_words_fit, starts_fit, codes_fit, unfit, is_open, too_short, unsound}
 use Rattle.model.specs.Calls.{no_such_register, own_refusals, step, refused}
@@ -25,10 +25,10 @@ use Rattle.model.proofs.Refused.{refusal_there, listed_ok, listed_err}
 use Rattle.numbers.proofs.Needed.{few_registers}
 use Rattle.opening.specs.Opened.{opened_with}
 use Rattle.opening.proofs.Laid.{opened_is}
+use Rattle.vet.specs.declared.vetted.Vetted.{Vetted}
 use Rattle.vet.specs.Vetted.{unfit_alone}
 use Rattle.vet.specs.Entries.{Refuses, Ready}
 use Rattle.vet.specs.Starts.{starts_read}
-use Rattle.vet.proofs.Entering.{settings_in}
 use Rattle.vet.proofs.Starting.{start_there}
 use Rattle.strikes.specs.Calls.{Told, heard}
 use Rattle.strikes.proofs.Admitting.{unlisted}
@@ -63,9 +63,17 @@ module _ (st ws limits starts : List ℕ) where
         open_unlisted (rw (z, and-false (limits_words_fit limits))) p.1
 
   -- 2, or none
-  module _ {s : Settings} (own : s ≡ settings_of st) {l : Limits} (limited : ◌≡◌ {A = Result Limits Refusal} (Ok l) (listed (limits_words_fit limits) (limits_of limits)))
-      {k : List Start} (started : ◌≡◌ {A = Result (List Start) Refusal} (Ok k) (listed (starts_fit s starts) (starts_read s starts)))
-      {n : ℕ} (ready : Ready st (unfit_alone st) n) where
+  module _ {x : Vetted} (ready : Ready st (unfit_alone st) x) {l : Limits} (limited : ◌≡◌ {A = Result Limits Refusal} (Ok l) (listed (limits_words_fit limits) (limits_of limits)))
+      {k : List Start} (started : ◌≡◌ {A = Result (List Start) Refusal} (Ok k) (listed (starts_fit x.s starts) (starts_read x.s starts))) where
+    abbrev s : Settings
+    s = x.s
+
+    abbrev n : ℕ
+    n = x.need
+
+    own : s ≡ settings_of st
+    own = ready.read
+
     limits_there : (limits_words_fit limits ≡ true) × (l ≡ limits_of limits)
     limits_there = listed_ok (limits_words_fit limits) limited
 
@@ -88,22 +96,16 @@ module _ (st ws limits starts : List ℕ) where
           let k = ready.need in
           rw (ready.fit, limits_there.0, starts_there.0, le-ltb (length ws) (words_needed (settings_of st)) (omega arith))
 
-      pub open_fits : settings_fit s ≡ true
-      open_fits = settings_in ready own
-
-      pub open_four : length k ≡ 4
-      open_four = rw starts_there.1
-
       pub open_long : length (take (n - 0) ws) ≡ words_needed s
       open_long =
-          let k = ready.need in
-          let d : n - 0 ≡ words_needed (settings_of st) = omega arith in
-          rw own (length-take-le (n - 0) ws (omega arith) ∙ d)
+          let k = x.needed in
+          let d : n - 0 ≡ words_needed s = omega arith in
+          length-take-le (n - 0) ws (omega arith) ∙ d
 
       -- the starts as they were read are those of the rules
       opened_as_read : opened s limits starts ≡ opened_with s l k
       opened_as_read =
-          let few = few_registers s open_fits in
+          let few = few_registers s x.fit in
           rw (limits_there.1) (opened_is s starts k (λ r h. rw starts_there.1 (start_there s starts r h (omega arith))) limits)
 
       pub was_opened : {last : List ℕ} → last ≡ (state_form s).enc (opened_with s l k)

@@ -17,7 +17,7 @@ use Rattle.model.specs.declared.Limits.{Limits}
 use Rattle.model.specs.declared.Reason.{Reason}
 use Rattle.model.specs.declared.Settings.{Settings}
 use Rattle.model.specs.declared.Verdict.{Verdict}
-use Rattle.model.specs.Settings.{settings_of, limits_of}
+use Rattle.model.specs.Settings.{limits_of}
 use Rattle.model.specs.Codes.{verdict_fits, verdict_of}
 use Rattle.model.specs.Book.{closed_book, with_limits}
 use Rattle.model.specs.Words.{FrontOk, encode_front}
@@ -28,6 +28,8 @@ use Rattle.register.specs.Rules.{asked_by}
 use Rattle.taking.specs.Reasons.{reason_at}
 use Rattle.taking.specs.Words.{StateReads, StateTurns}
 use Rattle.seeking.specs.Seeking.{sought_by}
+use Rattle.taking.specs.declared.one_register.OneRegister.{OneRegister}
+use Rattle.vet.specs.declared.vetted.Vetted.{Vetted}
 use Rattle.vet.specs.Vetted.{vetted}
 use Rattle.vet.specs.Entries.{Refuses, ReadyWithin}
 use Rattle.strikes.specs.Admitted.{admits}
@@ -38,25 +40,25 @@ use Rattle.strikes.proofs.OnRegister.{deed_refused, code_refused}
 use Rattle.strikes.proofs.OnWhole.{run_of, put_run, told_whole, told_seen, told_run, told_front}
 
 -- ---- a ticket
-pub was_asked : (st ws : List ℕ) (r n : ℕ) (s : Settings) (m : Manner) (a : Asking) (x : Handed) (last : List ℕ) (v : Verdict)
-    → ByRegister st ws r n → s ≡ settings_of st → ◌≡◌ {A = Result Handed Refusal} (Ok x) (listed (asking_fits a) (ask_read a))
-    → StateTurns s (λ y. (asked s r m (asked_by x) y).state) (λ y. (asked s r m (asked_by x) y).answer) (run_of n ws) last (Said v)
-    → Told st ws (On r (Ticket m a)) (Said v) (put_run n ws last)
+pub was_asked : (st ws : List ℕ) (r : ℕ) (on : OneRegister) (m : Manner) (a : Asking) (x : Handed) (last : List ℕ) (v : Verdict)
+    → ByRegister st ws r on → ◌≡◌ {A = Result Handed Refusal} (Ok x) (listed (asking_fits a) (ask_read a))
+    → StateTurns on.s (λ y. (asked on.s on.r m (asked_by x) y).state) (λ y. (asked on.s on.r m (asked_by x) y).answer) (run_of on.need ws) last (Said v)
+    → Told st ws (On r (Ticket m a)) (Said v) (put_run on.need ws last)
 unfolding deed_fits deed_refusals first_own first_met done_on
-was_asked st ws r n s m a x last v by read asks turn =
+was_asked st ws r on m a x last v by asks turn =
     let q = listed_ok (asking_fits a) asks in
     let e : asked_by x ≡ ask_of a = ap asked_by q.1 in
-    told_whole by (Ticket m a) q.0 read (λ y. refl) (λ z. z) (λ y. rw e) (λ y. rw e) turn
+    told_whole by (Ticket m a) q.0 (λ y. refl) (λ z. z) (λ y. rw (e, by.number)) (λ y. rw (e, by.number)) turn
 
 -- ---- the rule behind its verdict
-pub was_explained : (st ws : List ℕ) (r n : ℕ) (s : Settings) (a : Asking) (x : Handed) (v : Reason)
-    → ByRegister st ws r n → s ≡ settings_of st → ◌≡◌ {A = Result Handed Refusal} (Ok x) (listed (asking_fits a) (ask_read a))
-    → StateReads s (reason_at s r (asked_by x)) (run_of n ws) v → Because v ≡ reply st ws (On r (Explain a))
+pub was_explained : (st ws : List ℕ) (r : ℕ) (on : OneRegister) (a : Asking) (x : Handed) (v : Reason)
+    → ByRegister st ws r on → ◌≡◌ {A = Result Handed Refusal} (Ok x) (listed (asking_fits a) (ask_read a))
+    → StateReads on.s (reason_at on.s on.r (asked_by x)) (run_of on.need ws) v → Because v ≡ reply st ws (On r (Explain a))
 unfolding deed_fits deed_refusals first_own first_met done_on reason_at
-was_explained st ws r n s a x v by read asks reads =
+was_explained st ws r on a x v by asks reads =
     let q = listed_ok (asking_fits a) asks in
     let e : asked_by x ≡ ask_of a = ap asked_by q.1 in
-    told_seen by (Explain a) q.0 read (λ y. refl) Because (λ y. rw e) reads
+    told_seen by (Explain a) q.0 (λ y. refl) Because (λ y. rw (e, by.number)) reads
 
 -- ---- the smallest stamp with a wanted verdict: its two codes are read one after the other
 module _ (st ws : List ℕ) (r : ℕ) (q : Seeking) where
@@ -85,14 +87,14 @@ module _ (st ws : List ℕ) (r : ℕ) (q : Seeking) where
           → heard f got ≡ reply st ws (On r (StampFor q))
       seek_refused f e got out h = (deed_refused f st ws r (StampFor q) e got out wanted_fits h).answer
 
-      pub was_sought : {n : ℕ} → ByRegister st ws r n → {s : Settings} → s ≡ settings_of st → (best : Option ℕ)
-          → StateReads s (sought_by s r (asked_by x) v) (run_of n ws) best
+      pub was_sought : {on : OneRegister} → ByRegister st ws r on → (best : Option ℕ)
+          → StateReads on.s (sought_by on.s on.r (asked_by x) v) (run_of on.need ws) best
           → stamp_answer best ≡ reply st ws (On r (StampFor q))
       unfolding deed_refusals first_own first_met done_on sought_by
-      was_sought by read best reads =
+      was_sought by best reads =
           let e : asked_by x ≡ ask_of (asking_at 0 q) = ap asked_by (listed_ok (asking_fits (asking_at 0 q)) asks).1 in
           let w = (listed_ok (verdict_fits q.wanted) named).1 in
-          told_seen by (StampFor q) wanted_fits read (λ y. refl) stamp_answer (λ y. rw (e, w)) reads
+          told_seen by (StampFor q) wanted_fits (λ y. refl) stamp_answer (λ y. rw (e, w, by.number)) reads
 
 -- ---- calls on the book
 pub closes : OnBook Close
@@ -107,15 +109,15 @@ pub limits : (ls : List ℕ) → OnBook (SetLimits ls)
 unfolding is_open no_such_register own_refusals
 limits ls = record { of = record { shut = refl; unnumbered = λ s. refl }; never = λ s t. refl }
 
-module _ {st ws : List ℕ} {n : ℕ} (enters : ReadyWithin st ws (vetted st ws) n) {last : List ℕ} where
+module _ {st ws : List ℕ} {x : Vetted} (enters : ReadyWithin st ws (vetted st ws) x) {last : List ℕ} where
   pub was_closed : ((s : Settings) → Turns (encode_front s) FrontOk shut (λ f. tt {0}) (take 20 ws) last (tt {0})) → Told st ws Close Done (last ++ drop 20 ws)
   unfolding codes_fit step closed_book
   was_closed turn = told_front enters closes refl (λ v. Done) (λ t. refl) (λ t. refl) turn
 
-  pub was_expired : {s : Settings} → s ≡ settings_of st → {ms : ℕ} → StateTurns s (λ t. (step s (Expire ms) t).state) silent (run_of n ws) last (tt {0})
-      → Told st ws (Expire ms) Done (put_run n ws last)
+  pub was_expired : {ms : ℕ} → StateTurns x.s (λ t. (step x.s (Expire ms) t).state) silent (run_of x.need ws) last (tt {0})
+      → Told st ws (Expire ms) Done (put_run x.need ws last)
   unfolding codes_fit step
-  was_expired read {ms} turn = told_run enters (expires ms) refl read (λ v. Done) (λ t. refl) (λ t. refl) turn
+  was_expired {ms} turn = told_run enters (expires ms) refl (λ v. Done) (λ t. refl) (λ t. refl) turn
 
   -- limits that the call brings
   pub was_limited : (ls : List ℕ) {l : Limits} → ◌≡◌ {A = Result Limits Refusal} (Ok l) (listed (limits_words_fit ls) (limits_of ls))

@@ -1,7 +1,9 @@
 // The public calls. Each brings its settings as 29 words and the words that it may use. A call tries its refusals in their order,
 // 1, 2, 3, 4, 8, 6, 5, 7, and a refusal alters nothing; otherwise it does what the rules say, and leaves what lies past the needed words.
 // A code that is not listed is refused with 1, as unfit settings are, so which of the two is tried first tells nothing.
-// Kinds, classes, verdicts and flags come as numbers, as the C interface passes them, and are read here.
+// Kinds, classes, verdicts and flags come as numbers, as the C interface passes them, and are read here. Settings and words are parameters
+// and no struct: a call that writes is lent the words to be written, any other to be read, so there would be two structs, each taken apart
+// at once.
 #![tactic(auto)]
 
 ghost use Rattle.std.specs.Prelude.{◌≡◌, ◌*◌, ◌≤◌, length};
@@ -13,20 +15,23 @@ ghost use Rattle.strikes.specs.Calls.{handed, seeking, Told, ToldOutput, heard, 
 ghost use Rattle.strikes.specs.Entries.{Admits, FindsRegister, FindsClass, AsksOf};
 
 use book::totals::Totals;
+use dump::Dump;
 use model::{
     Class, Deliverer, DelivererCode, Judged, Manner, Reason, Refusal, Shares, Usable, Verdict,
 };
 use numbers::starts::RegisterExtent;
-use numbers::{bounds, codes, layout, starts};
+use numbers::{codes, layout, starts};
 use register::Ask;
 use register::heading::SweptTo;
+use std::ops::Range;
+use taking::OneRegister;
+use vet::Vetted;
 
-// Where a call finds a class of the share book.
-#[derive(Clone, Copy, Debug, PartialEq, Eq)]
-pub struct ClassExtent {
-    pub shares: Shares,
-    pub start: usize,
-    pub end: usize,
+// Where a call finds a class of the share book: its words, in all words.
+#[derive(Drop)]
+struct ClassExtent {
+    shares: Shares,
+    words: Range<usize>,
 }
 
 // A ticket as a host asks about it, its codes not yet read: the reading with its judging flag, and who delivers it.
@@ -66,38 +71,36 @@ pub enum Restored {
     Partly(u64),
 }
 
-// The words that the settings need, for a call on one register; or the first of the refusals 1 to 4.
-fn admit(settings: &[u64], words: &[u64], register: u64) -> Result<usize, Refusal>
+// The register that a call is on; or the first of the refusals 1 to 4.
+fn admit(settings: &[u64], words: &[u64], register: u64) -> Result<OneRegister, Refusal>
     ensures { Admits settings.now words.now register result }
 {
-    let need = vet::vet(settings, words)?;
-    let s = bounds::settings_of(settings);
+    let Vetted { s, need } = vet::vet(settings, words)?;
     if s.registers <= register {
         return Err(Refusal::NoSuchRegister);
     }
-    Ok(need)
+    let r = register as usize;
+    let extent = starts::register_extent(s, r);
+    Ok(OneRegister { s, need, r, extent })
 }
 
-// Where that call finds its register.
+// Where the register lies that a call is on.
 fn enter_register(settings: &[u64], words: &[u64], register: u64) -> Result<RegisterExtent, Refusal>
     ensures { FindsRegister settings.now words.now register result }
 {
-    admit(settings, words, register)?;
-    Ok(starts::register_extent(bounds::settings_of(settings), register as usize))
+    let on = admit(settings, words, register)?;
+    Ok(on.extent)
 }
 
 // Where a call on the book finds a class.
 fn enter_class(settings: &[u64], words: &[u64], class: Class) -> Result<ClassExtent, Refusal>
     ensures { FindsClass settings.now words.now class result }
 {
-    vet::vet(settings, words)?;
-    let s = bounds::settings_of(settings);
-    let start = starts::class_start(s, class);
-    let width = starts::class_width(s.shares);
+    let vetted = vet::vet(settings, words)?;
+    let words = starts::class_extent(vetted.s, class);
     Ok(ClassExtent {
-        shares: s.shares,
-        start,
-        end: start + width,
+        shares: vetted.s.shares,
+        words,
     })
 }
 
@@ -114,9 +117,8 @@ pub fn ticket(
     ensures { Told settings.now words.old (On register (Ticket manner (handed asking))) (heard Said result) words.new }
 {
     let ask = Ask::try_from(asking)?;
-    let need = admit(settings, words, register)?;
-    let s = bounds::settings_of(settings);
-    Ok(taking::ask(&mut words[0..need], s, register as usize, manner, ask))
+    let on = admit(settings, words, register)?;
+    Ok(taking::ask(&mut words[0..on.need], &on, manner, ask))
 }
 
 // Begins: a pending register's floor is raised to the host's number. Says whether it was pending, and so began.
@@ -129,7 +131,7 @@ pub fn begin(
     ensures { Told settings.now words.old (On register (Begin number)) (heard begun_or_already result) words.new }
 {
     let at = enter_register(settings, words, register)?;
-    Ok(register::heading::begin(&mut words[at.start..at.end], number))
+    Ok(register::heading::begin(&mut words[at.words()], number))
 }
 
 // Sweeps, as the host's tick does: what the clock has passed is dropped, and raises the floor.
@@ -142,7 +144,7 @@ pub fn sweep(
     ensures { Told settings.now words.old (On register (Sweep reading)) (heard done result) words.new }
 {
     let at = enter_register(settings, words, register)?;
-    register::sweep(&mut words[at.start..at.end], at.u, Judged(reading));
+    register::sweep(&mut words[at.words()], at.u, Judged(reading));
     Ok(())
 }
 
@@ -156,7 +158,7 @@ pub fn contains_hash(
     ensures { heard yes_no result ≡ reply settings.now words.now (On register (ContainsHash fp)) }
 {
     let at = enter_register(settings, words, register)?;
-    Ok(register::contains_hash(&words[at.start..at.end], at.u, fp))
+    Ok(register::contains_hash(&words[at.words()], at.u, fp))
 }
 
 // The floor, if there is one.
@@ -164,7 +166,7 @@ pub fn floor(settings: &[u64], words: &[u64], register: u64) -> Result<Option<u6
     ensures { heard floor_answer result ≡ reply settings.now words.now (On register Floor) }
 {
     let at = enter_register(settings, words, register)?;
-    Ok(register::heading::floor(&words[at.start..at.end]))
+    Ok(register::heading::floor(&words[at.words()]))
 }
 
 // Whether the register waits for the host's number.
@@ -172,7 +174,7 @@ pub fn pending(settings: &[u64], words: &[u64], register: u64) -> Result<bool, R
     ensures { heard yes_no result ≡ reply settings.now words.now (On register Pending) }
 {
     let at = enter_register(settings, words, register)?;
-    Ok(register::heading::is_pending(&words[at.start..at.end]))
+    Ok(register::heading::is_pending(&words[at.words()]))
 }
 
 // The bucket up to which the register is swept, and that in milliseconds, as the share book reads it.
@@ -180,7 +182,7 @@ pub fn swept(settings: &[u64], words: &[u64], register: u64) -> Result<SweptTo, 
     ensures { heard swept_heard result ≡ reply settings.now words.now (On register SweptBucket) }
 {
     let at = enter_register(settings, words, register)?;
-    Ok(register::heading::swept(&words[at.start..at.end]))
+    Ok(register::heading::swept(&words[at.words()]))
 }
 
 // The rule that gives the verdict of a take of this ticket, after the sweep that judge would make. The words are only read.
@@ -193,35 +195,25 @@ pub fn explain(
     ensures { heard Because result ≡ reply settings.now words.now (On register (Explain (handed asking))) }
 {
     let ask = Ask::try_from(asking)?;
-    let need = admit(settings, words, register)?;
-    let s = bounds::settings_of(settings);
-    Ok(taking::explain(&words[0..need], s, register as usize, ask))
+    let on = admit(settings, words, register)?;
+    Ok(taking::explain(&words[0..on.need], &on, ask))
 }
 
-// The smallest stamp for which take_batch would give the verdict with the wanted number, or none. The words are only read.
+// The smallest stamp for which take_batch would give the verdict with the wanted number, or none. The asking's stamp is not read. The words
+// are only read.
 pub fn stamp_for(
     settings: &[u64],
     words: &[u64],
     register: u64,
-    fp: u64,
-    reading: u64,
-    flag: u64,
-    who: DelivererCode,
+    asking: Asking,
     wanted: u64,
 ) -> Result<Option<u64>, Refusal>
-    ensures { heard stamp_answer result ≡ reply settings.now words.now (seeking register fp reading flag who.kind who.number wanted) }
+    ensures { heard stamp_answer result ≡ reply settings.now words.now (seeking register asking.fp asking.reading asking.flag asking.who.kind asking.who.number wanted) }
 {
-    let ask = Ask::try_from(Asking {
-        fp,
-        stamp: 0,
-        reading,
-        flag,
-        who,
-    })?;
+    let ask = Ask::try_from(Asking { stamp: 0, ..asking })?;
     let verdict = Verdict::try_from(wanted)?;
-    let need = admit(settings, words, register)?;
-    let s = bounds::settings_of(settings);
-    Ok(seeking::stamp_for(&words[0..need], s, register as usize, ask, verdict))
+    let on = admit(settings, words, register)?;
+    Ok(seeking::stamp_for(&words[0..on.need], on, ask, verdict))
 }
 
 // Closes the share book: every draw from now on is refused.
@@ -237,8 +229,7 @@ pub fn close(settings: &[u64], words: &mut [u64]) -> Result<(), Refusal>
 pub fn expire(settings: &[u64], words: &mut [u64], reading: u64) -> Result<(), Refusal>
     ensures { Told settings.now words.old (Expire reading) (heard done result) words.new }
 {
-    let need = vet::vet(settings, words)?;
-    let s = bounds::settings_of(settings);
+    let Vetted { s, need } = vet::vet(settings, words)?;
     expiring::expire(&mut words[0..need], s, Judged(reading));
     Ok(())
 }
@@ -263,8 +254,7 @@ pub fn open(
 ) -> Result<(), Refusal>
     ensures { Told settings.now words.old (Open limits.now starts.now) (heard done result) words.new }
 {
-    let need = vet::settings_entry(settings)?;
-    let s = bounds::settings_of(settings);
+    let Vetted { s, need } = vet::settings_entry(settings)?;
     let wanted = vet::limits_of(limits)?;
     let started = vet::starts_of(s, starts)?;
     let room = words.len();
@@ -280,8 +270,8 @@ pub fn held(settings: &[u64], words: &[u64], who: DelivererCode) -> Result<u64, 
     ensures { heard Entries result ≡ reply settings.now words.now (HeldBy who.kind who.number) }
 {
     let who = Deliverer::try_from(who)?;
-    let at = enter_class(settings, words, codes::class_of(who))?;
-    Ok(book::held_by(&words[at.start..at.end], at.shares, who))
+    let at = enter_class(settings, words, Class::from(who))?;
+    Ok(book::held_by(&words[at.words], at.shares, who))
 }
 
 // A class's entries, holders, units and expired second.
@@ -290,7 +280,7 @@ pub fn class_totals(settings: &[u64], words: &[u64], class: u64) -> Result<Total
 {
     let named = Class::try_from(class)?;
     let at = enter_class(settings, words, named)?;
-    Ok(book::held_of(&words[at.start..at.end]))
+    Ok(book::held_of(&words[at.words]))
 }
 
 // The refusals of a dump that come after 4: first 6, of a register that is pending, and then 5.
@@ -319,8 +309,9 @@ pub fn dump(
     ensures { ToldOutput settings.now words.now (On register (DumpTo out.old)) (heard Dumped result) out.new }
 {
     let at = enter_register(settings, words, register)?;
-    may_dump(&words[at.start..at.end], at.u, out.len())?;
-    Ok(dump::dump(out, &words[at.start..at.end], at.u))
+    let part = &words[at.words()];
+    may_dump(part, at.u, out.len())?;
+    Ok(dump::dump(out, part, at.u))
 }
 
 // Writes a register's view at the start of an output, and leaves what lies behind it: of each held generation, in dump sequence, its
@@ -334,11 +325,12 @@ pub fn view_register(
     ensures { ToldOutput settings.now words.now (On register (ViewRegister out.old)) (heard Viewed result) out.new }
 {
     let at = enter_register(settings, words, register)?;
-    let long = register_view::view_length(&words[at.start..at.end], at.u);
+    let part = &words[at.words()];
+    let long = register_view::view_length(part, at.u);
     if out.len() < long {
         return Err(Refusal::ViewTooShort);
     }
-    Ok(register_view::view(out, &words[at.start..at.end], at.u))
+    Ok(register_view::view(out, part, at.u))
 }
 
 // Writes a deliverer's view at the start of an output, and leaves what lies behind it: its pairs of second and count, seconds rising, and
@@ -352,20 +344,21 @@ pub fn view_deliverer(
     ensures { ToldOutput settings.now words.now (ViewDeliverer who.kind who.number out.old) (heard Viewed result) out.new }
 {
     let who = Deliverer::try_from(who)?;
-    let at = enter_class(settings, words, codes::class_of(who))?;
-    let long = book_view::view_length(&words[at.start..at.end], at.shares, who);
+    let at = enter_class(settings, words, Class::from(who))?;
+    let part = &words[at.words];
+    let long = book_view::view_length(part, at.shares, who);
     if out.len() < long {
         return Err(Refusal::ViewTooShort);
     }
-    Ok(book_view::view(out, &words[at.start..at.end], at.shares, who))
+    Ok(book_view::view(out, part, at.shares, who))
 }
 
-// What a restore says that read so many words of these bytes.
-fn told_restored(whole: bool, bytes: &[u8], long: usize) -> Restored
-    requires { 8 * long ≤ length bytes.now }
-    ensures { restored_heard result ≡ restore_answer (8 * long) whole }
+// What a restore of a dump says: how many bytes it read, and whether all is held.
+#[tactic(auto, using(dump::proofs::Walks::within_bytes))]
+fn told_restored(whole: bool, dump: &Dump) -> Restored
+    ensures { restored_heard result ≡ restore_answer (8 * dump.now.words) whole }
 {
-    let read = 8 * (long as u64);
+    let read = 8 * (dump.words as u64);
     if whole {
         Restored::Whole(read)
     } else {
@@ -382,11 +375,10 @@ pub fn restore(
 ) -> Result<Restored, Refusal>
     ensures { Told settings.now words.old (On register (Restore bytes.now)) (heard restored_heard result) words.new }
 {
-    let need = admit(settings, words, register)?;
-    let long = dump::read_lengths(bytes).ok_or(Refusal::CutShort)?;
-    let s = bounds::settings_of(settings);
-    let whole = restoring::restore(&mut words[0..need], s, register as usize, bytes);
-    Ok(told_restored(whole, bytes, long))
+    let on = admit(settings, words, register)?;
+    let dump = dump::read_lengths(bytes).ok_or(Refusal::CutShort)?;
+    let whole = restoring::restore(&mut words[0..on.need], &on, &dump);
+    Ok(told_restored(whole, &dump))
 }
 
 // As restore, but the register's own floor is forgotten first. `flag` is 1 where a floor is proven, to which it is raised after.
@@ -401,9 +393,8 @@ pub fn resume(
     ensures { Told settings.now words.old (On register (Resume bytes.now flag floor)) (heard restored_heard result) words.new }
 {
     let proven = codes::flag(flag)?.then_some(floor);
-    let need = admit(settings, words, register)?;
-    let long = dump::read_lengths(bytes).ok_or(Refusal::CutShort)?;
-    let s = bounds::settings_of(settings);
-    let whole = restoring::resume(&mut words[0..need], s, register as usize, bytes, proven);
-    Ok(told_restored(whole, bytes, long))
+    let on = admit(settings, words, register)?;
+    let dump = dump::read_lengths(bytes).ok_or(Refusal::CutShort)?;
+    let whole = restoring::resume(&mut words[0..on.need], &on, &dump, proven);
+    Ok(told_restored(whole, &dump))
 }

@@ -1,6 +1,7 @@
 -- What strikes_words_needed answers: settings that are refused, and settings in bounds.
 use Prim.Native.Nat.{ℕ}
-use mathlib.Core.Path.{◌≡◌, refl, ◌∙◌}
+use mathlib.Core.Path.{◌≡◌, ◌∙◌}
+use mathlib.Core.Bool.{false}
 use mathlib.Core.List.{List}
 use Rattle.runs.proofs.Cases.{by_test}
 use Rattle.model.specs.declared.Refusal.{Refusal}
@@ -8,19 +9,20 @@ use Rattle.model.specs.Answer.{refusal_number}
 use Rattle.model.specs.Calls.{first_met, settings_words_fit}
 use Rattle.model.proofs.Refused.{refusal_there}
 use Rattle.vet.specs.Vetted.{unfit_alone}
-use Rattle.vet.specs.Entries.{Refuses, Ready}
-use Rattle.strikes_c.specs.Out.{needed_status, needed_out}
+use Rattle.vet.specs.Entries.{Refuses}
+use Rattle.strikes.specs.Admitted.{told_number}
+use Rattle.strikes_c.specs.Out.{told_out, NeedsWords, needed_status, needed_out}
+use Rattle.std.specs.Prelude.{Result, Ok, Err}
 
--- what is returned, and the out number
-abbrev pub Answers : List ℕ → ℕ → ℕ → ℕ → Type 0
-Answers st old n out = (n ≡ needed_status st) × (out ≡ needed_out st old)
-
-module _ (st : List ℕ) (old : ℕ) where
-  pub none_needed : (e : Refusal) (n : ℕ) → n ≡ refusal_number e → Refuses (unfit_alone st) e → Answers st old n old
+module _ (st : List ℕ) where
+  refused_with : (e : Refusal) → Refuses (unfit_alone st) e → (settings_words_fit st ≡ false) × (refusal_number e ≡ 1)
   unfolding unfit_alone first_met
-  none_needed e n told h =
-      by_test (settings_words_fit st) (λ f. absurd (refusal_there e (rw f at h)))
-      (λ f. rw f (told ∙ (rw f at h), refl))
+  refused_with e h = by_test (settings_words_fit st) (λ f. absurd (refusal_there e (rw f at h))) (λ f. (f, rw f at h))
 
-  pub some_needed : (n : ℕ) → Ready st (unfit_alone st) n → Answers st old 0 n
-  some_needed n ready = rw ready.fit (refl, ready.need)
+  pub number_needed : (told : Result ℕ Refusal) (n : ℕ) → NeedsWords st told → n ≡ told_number told → n ≡ needed_status st
+  number_needed (Ok need) n h e = rw h.0 e
+  number_needed (Err e) n h t = let r = refused_with e h in rw r.0 (t ∙ r.1)
+
+  pub value_needed : (told : Result ℕ Refusal) (out old : ℕ) → NeedsWords st told → out ≡ told_out (λ k. k) told old → out ≡ needed_out st old
+  value_needed (Ok need) out old h e = rw h.0 (e ∙ h.1)
+  value_needed (Err e) out old h t = let r = refused_with e h in rw r.0 t

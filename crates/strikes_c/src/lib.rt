@@ -5,38 +5,87 @@
 
 ghost use Rattle.std.specs.Prelude.{◌≡◌, [], ◌∷◌};
 ghost use Rattle.model.specs.declared.Manner.TheVariants.{Judged, JudgedBatch, Taken, TakenBatch};
+ghost use Rattle.model.specs.RegisterWords.{floor_flag, floor_word};
 ghost use Rattle.model.specs.Calls.{On, Ticket, Open, Expire, Close, SetLimits, HeldBy, ClassTotals, Begin, Sweep, ContainsHash, DumpTo, Restore, Resume, Floor, Pending, SweptBucket, ViewRegister, ViewDeliverer};
 ghost use Rattle.strikes.specs.Calls.{handed, asking, explaining, seeking};
 ghost use Rattle.strikes.specs.Admitted.{told_number};
-ghost use Rattle.strikes_c.specs.Out.{Returned, Read, Written, needed_status, needed_out};
+ghost use Rattle.strikes_c.specs.Out.{Returned, Read, Written, NeedsWords, needed_status, needed_out, told_out, whole_flag, bytes_read};
 
-use model::{DelivererCode, Manner, Refusal};
+use model::{DelivererCode, Manner, Refusal, Verdict};
 use numbers::codes;
 use strikes::{Asking, Restored};
 
-// What a call returns that has no out numbers: 0, or the refusal number.
-fn status(told: Result<(), Refusal>) -> u64
+// What a call returns: 0, or the refusal number.
+fn status<T: Drop>(told: Result<T, Refusal>) -> u64
     ensures { result ≡ told_number told }
 {
     match told {
-        Ok(()) => 0,
+        Ok(_) => 0,
         Err(refusal) => u64::from(refusal),
     }
 }
 
+// Stores what a call tells, and returns 0; a refusal stores nothing, and its number is returned. strikes_explain, strikes_swept and
+// strikes_class store their own numbers: no other call has as many, or has them from such a struct.
+fn store(told: Result<u64, Refusal>, out: &mut u64) -> u64
+    ensures number { result ≡ told_number told }
+    ensures out_after { out.new ≡ told_out (λ n. n) told out.old }
+{
+    if let Ok(value) = told {
+        *out = value;
+    }
+    status(told)
+}
+
+// As store, for a number that may be none: whether there is one, and the number, 0 where there is none.
+fn store_option(told: Result<Option<u64>, Refusal>, present: &mut u64, value: &mut u64) -> u64
+    ensures number { result ≡ told_number told }
+    ensures present_after { present.new ≡ told_out floor_flag told present.old }
+    ensures value_after { value.new ≡ told_out floor_word told value.old }
+{
+    if let Ok(found) = told {
+        *present = u64::from(found.is_some());
+        *value = found.unwrap_or(0);
+    }
+    status(told)
+}
+
+// As store, for what was read back: 1 where all of it came in, else 0, and the bytes that were read.
+fn store_restored(told: Result<Restored, Refusal>, whole: &mut u64, read: &mut u64) -> u64
+    ensures number { result ≡ told_number told }
+    ensures whole_after { whole.new ≡ told_out whole_flag told whole.old }
+    ensures read_after { read.new ≡ told_out bytes_read told read.old }
+{
+    match told {
+        Ok(Restored::Whole(length)) => {
+            *whole = 1;
+            *read = length;
+        }
+        Ok(Restored::Partly(length)) => {
+            *whole = 0;
+            *read = length;
+        }
+        Err(_) => {}
+    }
+    status(told)
+}
+
+// How many words the settings need, or the refusal of unfit ones.
+fn words_needed(settings: &[u64]) -> Result<u64, Refusal>
+    ensures { NeedsWords settings.now result }
+{
+    let entry = vet::settings_entry(settings)?;
+    Ok(entry.need as u64)
+}
+
 // The words that the settings need, or 1 where they are unfit.
+#[tactic(auto, using(crate::proofs::Needed::number_needed, crate::proofs::Needed::value_needed))]
 #[unsafe(no_mangle)]
 pub extern "C" fn strikes_words_needed(settings: &[u64], needed: &mut u64) -> u64
     ensures value { result ≡ needed_status settings.now }
     ensures needed_after { needed.new ≡ needed_out settings.now needed.old }
 {
-    match vet::settings_entry(settings) {
-        Ok(need) => {
-            *needed = need as u64;
-            0
-        }
-        Err(refusal) => u64::from(refusal),
-    }
+    store(words_needed(settings), needed)
 }
 
 // Opens the words: an empty book with these limits, and each register at its start.
@@ -64,13 +113,10 @@ fn ticket(
 ) -> u64
     ensures { Returned settings.now words.old (On register (Ticket manner (handed asking))) result words.new (verdict.old ∷ []) (verdict.new ∷ []) }
 {
-    match strikes::ticket(settings, words, register, manner, asking) {
-        Ok(found) => {
-            *verdict = u64::from(found);
-            0
-        }
-        Err(refusal) => u64::from(refusal),
-    }
+    store(
+        strikes::ticket(settings, words, register, manner, asking).map(u64::from),
+        verdict,
+    )
 }
 
 // What a ticket is. Nothing of it is remembered.
@@ -217,15 +263,13 @@ pub extern "C" fn strikes_explain(
         flag,
         who: DelivererCode { kind, number },
     };
-    match strikes::explain(settings, words, register, asking) {
-        Ok(reason) => {
-            *rule = codes::reason_number(reason);
-            *class = codes::reason_class(reason);
-            *verdict = u64::from(codes::reason_verdict(reason));
-            0
-        }
-        Err(refusal) => u64::from(refusal),
+    let told = strikes::explain(settings, words, register, asking);
+    if let Ok(reason) = told {
+        *rule = u64::from(reason);
+        *class = codes::reason_class(reason);
+        *verdict = u64::from(Verdict::from(reason));
     }
+    status(told)
 }
 
 // The smallest stamp for which strikes_take_batch would give the wanted verdict, or none. The words are only read.
@@ -245,20 +289,18 @@ pub extern "C" fn strikes_stamp_for(
 ) -> u64
     ensures { Read settings.now words.now (seeking register fp reading flag kind number wanted) result (found.old ∷ stamp.old ∷ []) (found.new ∷ stamp.new ∷ []) }
 {
-    let who = DelivererCode { kind, number };
-    match strikes::stamp_for(settings, words, register, fp, reading, flag, who, wanted) {
-        Ok(Some(least)) => {
-            *found = 1;
-            *stamp = least;
-            0
-        }
-        Ok(None) => {
-            *found = 0;
-            *stamp = 0;
-            0
-        }
-        Err(refusal) => u64::from(refusal),
-    }
+    let asking = Asking {
+        fp,
+        stamp: 0,
+        reading,
+        flag,
+        who: DelivererCode { kind, number },
+    };
+    store_option(
+        strikes::stamp_for(settings, words, register, asking, wanted),
+        found,
+        stamp,
+    )
 }
 
 // Whether a fingerprint is held in any bucket of any class.
@@ -272,13 +314,10 @@ pub extern "C" fn strikes_contains_hash(
 ) -> u64
     ensures { Read settings.now words.now (On register (ContainsHash fp)) result (held.old ∷ []) (held.new ∷ []) }
 {
-    match strikes::contains_hash(settings, words, register, fp) {
-        Ok(yes) => {
-            *held = u64::from(yes);
-            0
-        }
-        Err(refusal) => u64::from(refusal),
-    }
+    store(
+        strikes::contains_hash(settings, words, register, fp).map(u64::from),
+        held,
+    )
 }
 
 // Begins: 1 where a pending register's floor was raised to the host's number, 0 where it was not pending.
@@ -292,13 +331,10 @@ pub extern "C" fn strikes_begin(
 ) -> u64
     ensures { Returned settings.now words.old (On register (Begin number)) result words.new (begun.old ∷ []) (begun.new ∷ []) }
 {
-    match strikes::begin(settings, words, register, number) {
-        Ok(was_pending) => {
-            *begun = u64::from(was_pending);
-            0
-        }
-        Err(refusal) => u64::from(refusal),
-    }
+    store(
+        strikes::begin(settings, words, register, number).map(u64::from),
+        begun,
+    )
 }
 
 // Sweeps, as the host's tick does.
@@ -350,13 +386,10 @@ pub extern "C" fn strikes_dump(
 ) -> u64
     ensures { Written settings.now words.now (On register (DumpTo out.old)) result out.new (written.old ∷ []) (written.new ∷ []) }
 {
-    match strikes::dump(settings, words, register, out) {
-        Ok(length) => {
-            *written = length as u64;
-            0
-        }
-        Err(refusal) => u64::from(refusal),
-    }
+    store(
+        strikes::dump(settings, words, register, out).map(|length| length as u64),
+        written,
+    )
 }
 
 // Writes a register's view at the start of an output, and leaves what lies behind it: the words written.
@@ -370,13 +403,10 @@ pub extern "C" fn strikes_view_register(
 ) -> u64
     ensures { Written settings.now words.now (On register (ViewRegister out.old)) result out.new (written.old ∷ []) (written.new ∷ []) }
 {
-    match strikes::view_register(settings, words, register, out) {
-        Ok(length) => {
-            *written = length as u64;
-            0
-        }
-        Err(refusal) => u64::from(refusal),
-    }
+    store(
+        strikes::view_register(settings, words, register, out).map(|length| length as u64),
+        written,
+    )
 }
 
 // Writes a deliverer's view at the start of an output, and leaves what lies behind it: the words written.
@@ -391,13 +421,12 @@ pub extern "C" fn strikes_view_deliverer(
 ) -> u64
     ensures { Written settings.now words.now (ViewDeliverer kind number out.old) result out.new (written.old ∷ []) (written.new ∷ []) }
 {
-    match strikes::view_deliverer(settings, words, DelivererCode { kind, number }, out) {
-        Ok(length) => {
-            *written = length as u64;
-            0
-        }
-        Err(refusal) => u64::from(refusal),
-    }
+    store(
+        strikes::view_deliverer(settings, words, DelivererCode { kind, number }, out).map(
+            |length| length as u64,
+        ),
+        written,
+    )
 }
 
 // Reads a dump back into a register: 1 where all of it came in, else 0, and the bytes that it has.
@@ -412,19 +441,11 @@ pub extern "C" fn strikes_restore(
 ) -> u64
     ensures { Returned settings.now words.old (On register (Restore bytes.now)) result words.new (whole.old ∷ read.old ∷ []) (whole.new ∷ read.new ∷ []) }
 {
-    match strikes::restore(settings, words, register, bytes) {
-        Ok(Restored::Whole(length)) => {
-            *whole = 1;
-            *read = length;
-            0
-        }
-        Ok(Restored::Partly(length)) => {
-            *whole = 0;
-            *read = length;
-            0
-        }
-        Err(refusal) => u64::from(refusal),
-    }
+    store_restored(
+        strikes::restore(settings, words, register, bytes),
+        whole,
+        read,
+    )
 }
 
 // As strikes_restore, but the register's own floor is forgotten first. `flag` is 1 where a floor is proven, to which it is raised after.
@@ -441,19 +462,11 @@ pub extern "C" fn strikes_resume(
 ) -> u64
     ensures { Returned settings.now words.old (On register (Resume bytes.now flag floor)) result words.new (whole.old ∷ read.old ∷ []) (whole.new ∷ read.new ∷ []) }
 {
-    match strikes::resume(settings, words, register, bytes, flag, floor) {
-        Ok(Restored::Whole(length)) => {
-            *whole = 1;
-            *read = length;
-            0
-        }
-        Ok(Restored::Partly(length)) => {
-            *whole = 0;
-            *read = length;
-            0
-        }
-        Err(refusal) => u64::from(refusal),
-    }
+    store_restored(
+        strikes::resume(settings, words, register, bytes, flag, floor),
+        whole,
+        read,
+    )
 }
 
 // Whether there is a floor, and the floor, 0 where there is none.
@@ -467,19 +480,7 @@ pub extern "C" fn strikes_floor(
 ) -> u64
     ensures { Read settings.now words.now (On register Floor) result (present.old ∷ floor.old ∷ []) (present.new ∷ floor.new ∷ []) }
 {
-    match strikes::floor(settings, words, register) {
-        Ok(Some(at)) => {
-            *present = 1;
-            *floor = at;
-            0
-        }
-        Ok(None) => {
-            *present = 0;
-            *floor = 0;
-            0
-        }
-        Err(refusal) => u64::from(refusal),
-    }
+    store_option(strikes::floor(settings, words, register), present, floor)
 }
 
 // Whether the register waits for the host's number.
@@ -492,13 +493,10 @@ pub extern "C" fn strikes_pending(
 ) -> u64
     ensures { Read settings.now words.now (On register Pending) result (pending.old ∷ []) (pending.new ∷ []) }
 {
-    match strikes::pending(settings, words, register) {
-        Ok(yes) => {
-            *pending = u64::from(yes);
-            0
-        }
-        Err(refusal) => u64::from(refusal),
-    }
+    store(
+        strikes::pending(settings, words, register).map(u64::from),
+        pending,
+    )
 }
 
 // The bucket up to which the register is swept, and the published sweep in milliseconds.
@@ -512,14 +510,12 @@ pub extern "C" fn strikes_swept(
 ) -> u64
     ensures { Read settings.now words.now (On register SweptBucket) result (bucket.old ∷ published.old ∷ []) (bucket.new ∷ published.new ∷ []) }
 {
-    match strikes::swept(settings, words, register) {
-        Ok(swept) => {
-            *bucket = swept.bucket.0;
-            *published = swept.published.0;
-            0
-        }
-        Err(refusal) => u64::from(refusal),
+    let told = strikes::swept(settings, words, register);
+    if let Ok(swept) = told {
+        *bucket = swept.bucket.0;
+        *published = swept.published.0;
     }
+    status(told)
 }
 
 // The entries that a deliverer holds.
@@ -533,13 +529,10 @@ pub extern "C" fn strikes_held(
 ) -> u64
     ensures { Read settings.now words.now (HeldBy kind number) result (entries.old ∷ []) (entries.new ∷ []) }
 {
-    match strikes::held(settings, words, DelivererCode { kind, number }) {
-        Ok(count) => {
-            *entries = count;
-            0
-        }
-        Err(refusal) => u64::from(refusal),
-    }
+    store(
+        strikes::held(settings, words, DelivererCode { kind, number }),
+        entries,
+    )
 }
 
 // A class's entries, holders, units and expired second.
@@ -555,14 +548,12 @@ pub extern "C" fn strikes_class(
 ) -> u64
     ensures { Read settings.now words.now (ClassTotals class) result (entries.old ∷ holders.old ∷ units.old ∷ expired.old ∷ []) (entries.new ∷ holders.new ∷ units.new ∷ expired.new ∷ []) }
 {
-    match strikes::class_totals(settings, words, class) {
-        Ok(totals) => {
-            *entries = totals.entries;
-            *holders = totals.holders;
-            *units = totals.units;
-            *expired = totals.expired;
-            0
-        }
-        Err(refusal) => u64::from(refusal),
+    let told = strikes::class_totals(settings, words, class);
+    if let Ok(totals) = told {
+        *entries = totals.entries;
+        *holders = totals.holders;
+        *units = totals.units;
+        *expired = totals.expired;
     }
+    status(told)
 }

@@ -57,20 +57,20 @@ module _ (s : Settings) (r : ℕ) (h : r < s.registers) (p : RegisterExtent) (l 
 
   module _ (k : Ticket) (c : Class) (class : c ≡ class_of k.who) where
     abbrev Fits : Usable → Class → Room → Type 0
-    Fits u d m = StateReads s (λ t. make_room u.slots k.bucket.0 k.fp (pick d (register_at r t).rings)) ws m
+    Fits u d m = StateReads s (λ t. make_room u.slots k.bucket.0 k.fp.word (pick d (register_at r t).rings)) ws m
 
-    pub room_reads : (m : Room) → RegisterReads p.u (λ reg. make_room p.u.slots k.bucket.0 k.fp (pick c reg.rings)) part m
+    pub room_reads : (m : Room) → RegisterReads p.u (λ reg. make_room p.u.slots k.bucket.0 k.fp.word (pick c reg.rings)) part m
         → StateReads s (room_for s r k) ws m
     room_reads m t = subst (λ (u : Usable). Fits u (class_of k.who) m) l.usable (subst (λ (d : Class). Fits p.u d m) class (register_reads s r h p l t))
 
     pub strike_asks : (m : Room) → RunWords s ws → StateReads s (room_for s r k) ws m
-        → RegisterReads p.u (λ reg. make_room p.u.slots k.bucket.0 k.fp (pick c reg.rings)) part m
+        → RegisterReads p.u (λ reg. make_room p.u.slots k.bucket.0 k.fp.word (pick c reg.rings)) part m
     strike_asks m w t =
-        register_known s r h p l (λ reg. make_room p.u.slots k.bucket.0 k.fp (pick c reg.rings)) ws m w
+        register_known s r h p l (λ reg. make_room p.u.slots k.bucket.0 k.fp.word (pick c reg.rings)) ws m w
         (subst (λ (d : Class). Fits p.u d m) (sym class) (subst (λ (u : Usable). Fits u (class_of k.who) m) (sym l.usable) t))
 
-    pub strike_turns : (last : List ℕ) → RegisterTurns p.u (strike c k.bucket.0 k.fp k.stamp) silent part last (tt {0})
+    pub strike_turns : (last : List ℕ) → RegisterTurns p.u (strike c k.bucket.0 k.fp.word k.stamp) silent part last (tt {0})
         → StateTurns s (struck_by r k) silent ws (whole last) (tt {0})
     strike_turns last t =
-        subst (λ (d : Class). StateTurns s (λ x. with_register r (strike d k.bucket.0 k.fp k.stamp (register_at r x)) x) silent ws (whole last) (tt {0}))
+        subst (λ (d : Class). StateTurns s (λ x. with_register r (strike d k.bucket.0 k.fp.word k.stamp (register_at r x)) x) silent ws (whole last) (tt {0}))
         class (register_turns s r h p l t)

@@ -1,7 +1,7 @@
 -- The rule behind a take's verdict, step by step: the rules of judge, the share, the room, and the sweep that was seen. Assumes nothing.
 use Prim.Native.Nat.{ℕ, ◌-◌}
 use mathlib.Core.Path.{◌≡◌, refl, sym, ap, subst, ◌∙◌}
-use mathlib.Core.Bool.{Bool, true, false, cond, not, ◌&&◌}
+use mathlib.Core.Bool.{Bool, true, cond, not, ◌&&◌}
 use mathlib.Core.List.{List, [], ◌∷◌}
 use mathlib.Core.Logic.{◌⊎◌, inl, inr}
 use lib.Dec.{eqb}
@@ -25,26 +25,27 @@ use Rattle.model.specs.Generation.{as_read}
 use Rattle.model.specs.Book.{second_of, granted, draw_says}
 use Rattle.model.specs.Register.{Ring, Register}
 use Rattle.model.specs.Judge.{Ask, bucket_of, make_room}
-use Rattle.model.specs.Codes.{reason_number}
+use Rattle.model.specs.Codes.{reason_number, draw_reason, room_reason}
 use Rattle.model.specs.Reason.{judge_rules, rules, first_rule, reason}
 use Rattle.model.specs.Words.{State, state_form}
 use Rattle.model.specs.Calls.{register_at}
 use Rattle.model.proofs.First.{first_is, none_is, met_or_none}
 use Rattle.model.proofs.Reasons.{after_draw, first_parts}
-use Rattle.model.proofs.Reasons.{room_reason as reason_of_room}
 use Rattle.numbers.specs.declared.starts.RegisterExtent.{RegisterExtent}
 use Rattle.numbers.specs.RegisterAt.{RegisterAt}
 use Rattle.ring.specs.Sweep.{swept_ring, room_after}
+use Rattle.std.proofs.Common.{Err}
+use Rattle.book.specs.declared.Spot.{Spot}
 use Rattle.register.specs.declared.peeking.Seen.{Seen}
 use Rattle.register.specs.Seen.{Sees, seen_by, left_by, judge_rule, room_left}
 use Rattle.register.specs.Words.{RegisterReads}
 use Rattle.register.proofs.Foreseen.{left_is}
-use Rattle.taking.specs.declared.shares.Share.{Share}
 use Rattle.taking.specs.declared.tickets.Ticket.{Ticket}
-use Rattle.taking.specs.Rules.{Suits, share_for}
-use Rattle.taking.specs.Reasons.{SeenAt, seen_at, judge_reason, draw_reason, room_seen, room_reason, share_reason, reason_seen, reason_at}
+use Rattle.taking.specs.Rules.{Suits, Granted, share_for, draw_for}
+use Rattle.taking.specs.Reasons.{SeenAt, seen_at, judge_reason, room_seen, share_reason, reason_seen, reason_at}
 use Rattle.taking.specs.Words.{StateReads}
 use Rattle.taking.proofs.InRun.{register_reads}
+use Rattle.taking.proofs.Draws.{was_granted, was_refused}
 
 -- ---- what is read of a register, in the whole run
 module _ (s : Settings) (r : ℕ) (p : RegisterExtent) (l : RegisterAt s r p) (ws : List ℕ) where
@@ -68,29 +69,26 @@ module _ (s : Settings) (r : ℕ) (p : RegisterExtent) (l : RegisterAt s r p) (w
         subst (λ (u : Usable). StateReads s (λ x. judge_rule u seen a (register_at r x)) ws v) l.usable (register_reads s r l.below p l t)
 
     pub room_after_reads : (k : Ticket) (c : Class) (m : Room) → c ≡ class_of k.who
-        → RegisterReads p.u (room_left p.u seen c k.bucket.0 k.fp) part m → StateReads s (room_seen s r seen k) ws m
+        → RegisterReads p.u (room_left p.u seen c k.bucket.0 k.fp.word) part m → StateReads s (room_seen s r seen k) ws m
     unfolding room_seen
     room_after_reads k c m class t =
-        subst (λ (u : Usable). StateReads s (λ x. room_left u seen (class_of k.who) k.bucket.0 k.fp (register_at r x)) ws m) l.usable
+        subst (λ (u : Usable). StateReads s (λ x. room_left u seen (class_of k.who) k.bucket.0 k.fp.word (register_at r x)) ws m) l.usable
         (register_reads s r l.below p l (rw class at t))
 
 -- ---- the share, and the room where it is granted
-module _ (s : Settings) (r : ℕ) (seen : Seen) (k : Ticket) (ws : List ℕ) (h : Share) (f : StateReads s (share_for s k) ws h)
-    (may : Bool) (said : may ≡ granted h.draw) where
-  pub share_refused : (v : Reason) → may ≡ false → v ≡ draw_reason h.draw → StateReads s (share_reason s r seen k) ws v
+module _ (s : Settings) (r : ℕ) (seen : Seen) (k : Ticket) (ws : List ℕ) where
+  pub share_refused : (against : Draw) (v : Reason) → StateReads s (share_for s k) ws (Err against) → v ≡ draw_reason against
+      → StateReads s (share_reason s r seen k) ws v
   unfolding share_reason
-  share_refused v e q = record {
-    says = λ t ok is.
-        let d : h.draw ≡ (share_for s k t).draw = ap (λ (z : Share). z.draw) (f.says t ok is) in
-        rw (← d, sym said ∙ e) q;
+  share_refused against v f q = record {
+    says = λ t ok is. let d = was_refused _ _ _ (granted (draw_for s k t)) (f.says t ok is) in rw d.0 (q ∙ ap draw_reason d.1);
   }
 
-  pub share_had : (v : Reason) (m : Room) → may ≡ true → StateReads s (room_seen s r seen k) ws m → v ≡ room_reason m → StateReads s (share_reason s r seen k) ws v
+  pub share_had : (spot : Spot) (v : Reason) (m : Room) → Granted s k ws spot → StateReads s (room_seen s r seen k) ws m → v ≡ room_reason m
+      → StateReads s (share_reason s r seen k) ws v
   unfolding share_reason
-  share_had v m e g q = record {
-    says = λ t ok is.
-        let d : h.draw ≡ (share_for s k t).draw = ap (λ (z : Share). z.draw) (f.says t ok is) in
-        rw (← d, sym said ∙ e) (q ∙ ap room_reason (g.says t ok is));
+  share_had spot v m f g q = record {
+    says = λ t ok is. rw (was_granted _ _ _ (granted (draw_for s k t)) (f.says t ok is)).0 (q ∙ ap room_reason (g.says t ok is));
   }
 
 -- ---- the rules of judge come first: none of them names Accepted, so Accepted tells that none is met
@@ -133,11 +131,6 @@ each_pick f Feeders e = refl
 each_pick f Peers e = refl
 each_pick f Own e = refl
 
-same_room : (m : Room) → room_reason m ≡ reason_of_room m
-same_room (At i) = refl
-same_room Collides = refl
-same_room NoSlots = refl
-
 by_draw : (d : Draw) (x : Reason) → cond (granted d) x (draw_reason d) ≡ after_draw d x
 by_draw Had x = refl
 by_draw Closed x = refl
@@ -155,7 +148,7 @@ module _ (s : Settings) (r : ℕ) (seen : Seen) (a : Ask) where
       let u = usable_at s r in
       let b = bucket_of u a.stamp in
       after_draw (draw_says s.shares a.who (second_of b u.bucket) t.book)
-      (reason_of_room (make_room u.slots b (as_read a.fp) (pick (class_of a.who) reg.rings)))
+      (room_reason (make_room u.slots b (as_read a.fp) (pick (class_of a.who) reg.rings)))
 
   module _ (k : Ticket) (q : Suits (usable_at s r) a k) where
     same_seen : (t : State) → room_seen s r seen k t
@@ -169,9 +162,9 @@ module _ (s : Settings) (r : ℕ) (seen : Seen) (a : Ask) where
     share_is : (t : State) → share_reason s r seen k t ≡ rest (left_by seen (register_at r t)) t
     unfolding share_reason draw_says
     share_is t =
-        let d = (share_for s k t).draw in
+        let d = draw_for s k t in
         let m = room_seen s r seen k t in
-        by_draw d (room_reason m) ∙ ap (after_draw d) (same_room m ∙ ap reason_of_room (same_seen t)) ∙ rw (q.who, q.second)
+        by_draw d (room_reason m) ∙ ap (after_draw d) (ap room_reason (same_seen t)) ∙ rw (q.who, q.second)
 
   module _ (ws : List ℕ) (v : Reason) (one : StateReads s (judge_reason s r seen a) ws v) where
     judged : (t : State) → (state_form s).Ok t → ws ≡ (state_form s).enc t → v ≡ first_of Accepted (judge_rules (usable_at s r) (left_by seen (register_at r t)) a)

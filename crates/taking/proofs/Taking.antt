@@ -1,23 +1,25 @@
 -- A take, step by step: the room, the share before it, the verdict before that. Assumes nothing.
 use Prim.Native.Nat.{ℕ, ◌<◌}
 use mathlib.Core.Path.{◌≡◌, refl, sym, ap, ◌∙◌}
-use mathlib.Core.Bool.{Bool, true, false, cond}
+use mathlib.Core.Bool.{Bool, cond}
 use mathlib.Core.List.{List}
 use mathlib.Core.Logic.{◌⊎◌, inl, inr}
+use Rattle.std.proofs.Common.{Err}
 use Rattle.runs.specs.Turns.{silent}
 use lib.Seq.{get_or-set_same, set-get_or, set-set}
-use Rattle.runs.proofs.Cases.{by_test, no}
+use Rattle.runs.proofs.Cases.{by_test}
 use Rattle.model.specs.declared.Draw.{Draw}
-use Rattle.model.specs.declared.Draw.TheVariants.{Granted as Had, Closed, OwnShare, ClassLimit, EqualPart, TwiceLimit, Places, Pairs}
 use Rattle.model.specs.declared.Manner.{Manner}
 use Rattle.model.specs.declared.Manner.TheVariants.{Judged, JudgedBatch, Taken as TakenManner, TakenBatch}
 use Rattle.model.specs.declared.Room.{Room}
 use Rattle.model.specs.declared.Room.TheVariants.{At, Collides, Full as NoSlots}
+use Rattle.model.specs.declared.Reason.{Reason}
 use Rattle.model.specs.declared.Settings.{Settings}
 use Rattle.model.specs.declared.Verdict.{Verdict}
 use Rattle.model.specs.declared.Verdict.TheVariants.{New, Duplicate, Late, Ahead, Full, Unjudged}
 use Rattle.model.specs.Settings.{usable_at}
 use Rattle.model.specs.Class.{class_of, pick}
+use Rattle.model.specs.Codes.{reason_verdict, room_reason}
 use Rattle.model.specs.Generation.{as_read}
 use Rattle.model.specs.Book.{second_of, granted, draw_says}
 use Rattle.model.specs.Register.{Register}
@@ -28,24 +30,19 @@ use Rattle.model.specs.Answer.{Said}
 use Rattle.model.proofs.Words.{state_exact}
 use Rattle.model.proofs.SoundnessKept.{there}
 use Rattle.book.specs.declared.Spot.{Spot}
-use Rattle.taking.specs.declared.shares.Share.{Share}
 use Rattle.taking.specs.declared.tickets.Ticket.{Ticket}
-use Rattle.taking.specs.Rules.{Proper, Suits, Granted, share_for, drawn_by, room_for, struck_by, room_verdict, room_state, taken_room, room_says, taken_share}
+use Rattle.taking.specs.Rules.{Suits, Granted, share_for, draw_for, drawn_by, room_for, struck_by, room_verdict, room_state, taken_room, room_says, taken_share}
 use Rattle.taking.specs.Rules.{share_says, left, rest_of, judged_by, judged_state, judged_says}
 use Rattle.taking.specs.Words.{StateReads, StateTurns, RunWords}
 use Rattle.taking.proofs.InRun.{known, known_turns, judged_fine}
-use Rattle.taking.proofs.Draws.{drawn_fine}
+use Rattle.taking.proofs.Draws.{was_granted, was_refused, drawn_fine}
 
--- a draw that is granted is no other
-granted_is : (d : Draw) → granted d ≡ true → d ≡ Had
-granted_is Had e = refl
-granted_is Closed e = no (cc)
-granted_is OwnShare e = no (cc)
-granted_is ClassLimit e = no (cc)
-granted_is EqualPart e = no (cc)
-granted_is TwiceLimit e = no (cc)
-granted_is Places e = no (cc)
-granted_is Pairs e = no (cc)
+-- the verdict of the rule by the room is that of the room
+room_told : (m : Room) → reason_verdict (room_reason m) ≡ room_verdict m
+unfolding reason_verdict
+room_told (At i) = refl
+room_told Collides = refl
+room_told NoSlots = refl
 
 module _ (s : Settings) (r : ℕ) where
   -- ---- the room
@@ -60,57 +57,44 @@ module _ (s : Settings) (r : ℕ) where
     unfolding room_state
     striking t i = refl
 
-    pub no_room_turns : (ws : List ℕ) (m : Room) (v : Verdict) → StateReads s (room_for s r k) ws m → ((i : ℕ) → m ≡ At i → ⊥) → v ≡ room_verdict m
-        → StateTurns s (taken_room s r k) (room_says s r k) ws ws v
-    no_room_turns ws m v f n e = record {
+    pub no_room_turns : (ws : List ℕ) (m : Room) (x : Reason) (v : Verdict) → StateReads s (room_for s r k) ws m → ((i : ℕ) → m ≡ At i → ⊥)
+        → x ≡ room_reason m → v ≡ reason_verdict x → StateTurns s (taken_room s r k) (room_says s r k) ws ws v
+    no_room_turns ws m x v f n e d = record {
       does = λ t ok is.
           let q = f.says t ok is in
-          (is ∙ ap (state_form s).enc (refusing t m n ∙ ap (room_state s r k t) q), e ∙ ap room_verdict q);
+          (is ∙ ap (state_form s).enc (refusing t m n ∙ ap (room_state s r k t) q), d ∙ ap reason_verdict e ∙ room_told m ∙ ap room_verdict q);
     }
 
     -- a draw alters no register
-    pub room_after : (ws mid : List ℕ) (w : RunWords s ws) (proper : Proper k) (spot : Spot) (g : Granted s k ws spot) (m : Room)
+    pub room_after : (ws mid : List ℕ) (w : RunWords s ws) (spot : Spot) (g : Granted s k ws spot) (m : Room)
         → StateReads s (room_for s r k) ws m → StateTurns s (drawn_by s k) silent ws mid (tt {0}) → StateReads s (room_for s r k) mid m
-    room_after ws mid w proper spot g m f d =
+    room_after ws mid w spot g m f d =
         let x = w.is.value in
-        known (state_exact s) (drawn_by s k x) (drawn_fine s k ws w proper spot g) mid (d.does x w.is.ok w.is.words).0 (room_for s r k) m
+        known (state_exact s) (drawn_by s k x) (drawn_fine s k ws w spot g) mid (d.does x w.is.ok w.is.words).0 (room_for s r k) m
         (f.says x w.is.ok w.is.words)
 
-    pub room_turns : (ws mid last : List ℕ) (w : RunWords s ws) (proper : Proper k) (spot : Spot) (g : Granted s k ws spot) (m : Room) (i : ℕ) → m ≡ At i
+    pub room_turns : (ws mid last : List ℕ) (w : RunWords s ws) (spot : Spot) (g : Granted s k ws spot) (m : Room) (i : ℕ) → m ≡ At i
         → StateReads s (room_for s r k) ws m → StateTurns s (drawn_by s k) silent ws mid (tt {0}) → StateTurns s (struck_by r k) silent mid last (tt {0})
         → StateTurns s (taken_room s r k) (room_says s r k) ws last New
-    room_turns ws mid last w proper spot g m i e f d o =
+    room_turns ws mid last w spot g m i e f d o =
         let x = w.is.value in
         let q = sym e ∙ f.says x w.is.ok w.is.words in
-        let y = (o.does (drawn_by s k x) (drawn_fine s k ws w proper spot g) (d.does x w.is.ok w.is.words).0).0 in
+        let y = (o.does (drawn_by s k x) (drawn_fine s k ws w spot g) (d.does x w.is.ok w.is.words).0).0 in
         known_turns (state_exact s) x w.is.ok ws last w.is.words (taken_room s r k) (room_says s r k) New
         (y ∙ ap (state_form s).enc (striking x i ∙ ap (room_state s r k x) q)) (ap room_verdict q)
 
     -- ---- the share
-    module _ (ws : List ℕ) (h : Share) (f : StateReads s (share_for s k) ws h) (may : Bool) (said : may ≡ granted h.draw) where
-      pub granted_spot : may ≡ true → Granted s k ws h.spot
-      granted_spot e = record { says = λ t ok is. (λ i. record { spot = h.spot; draw = sym (granted_is h.draw (sym said ∙ e)) i }) ∙ f.says t ok is }
+    pub no_share_turns : (ws : List ℕ) (against : Draw) → StateReads s (share_for s k) ws (Err against)
+        → StateTurns s (taken_share s r k) (share_says s r k) ws ws Full
+    no_share_turns ws against f = record {
+      does = λ t ok is. let q = (was_refused _ _ _ (granted (draw_for s k t)) (f.says t ok is)).0 in (is ∙ ap (state_form s).enc (rw q), rw q);
+    }
 
-      no_share : (t : State) → (state_form s).Ok t → ws ≡ (state_form s).enc t → (b : Bool) → may ≡ b → b ≡ granted (share_for s k t).draw
-      no_share t ok is b e = sym e ∙ said ∙ ap (λ (z : Share). granted z.draw) (f.says t ok is)
-
-      pub no_share_turns : may ≡ false → StateTurns s (taken_share s r k) (share_says s r k) ws ws Full
-      no_share_turns e = record {
-        does = λ t ok is.
-            let q = no_share t ok is false e in
-            (is ∙ ap (λ (b : Bool). (state_form s).enc (cond b (taken_room s r k t) t)) q, ap (λ (b : Bool). cond b (room_says s r k t) Full) q);
-      }
-
-      pub share_turns : (last : List ℕ) (v : Verdict) → may ≡ true → StateTurns s (taken_room s r k) (room_says s r k) ws last v
-          → StateTurns s (taken_share s r k) (share_says s r k) ws last v
-      share_turns last v e o = record {
-        does = λ t ok is.
-            let q = no_share t ok is true e in
-            let y = o.does t ok is in (
-              y.0 ∙ ap (λ (b : Bool). (state_form s).enc (cond b (taken_room s r k t) t)) q,
-              y.1 ∙ ap (λ (b : Bool). cond b (room_says s r k t) Full) q,
-            );
-      }
+    pub share_turns : (ws last : List ℕ) (spot : Spot) (v : Verdict) → Granted s k ws spot → StateTurns s (taken_room s r k) (room_says s r k) ws last v
+        → StateTurns s (taken_share s r k) (share_says s r k) ws last v
+    share_turns ws last spot v f o = record {
+      does = λ t ok is. let q = (was_granted _ _ _ (granted (draw_for s k t)) (f.says t ok is)).0 in let y = o.does t ok is in (rw q y.0, rw q y.1);
+    }
 
   -- ---- as the rules say it
   -- a register put back as it was
@@ -140,7 +124,7 @@ module _ (s : Settings) (r : ℕ) where
     abbrev share_asked : Bool
     share_asked = granted (draw_says s.shares a.who (second_of (bucket_of (usable_at s r) a.stamp) (usable_at s r).bucket) t.book)
 
-    same_share : granted (share_for s k t).draw ≡ share_asked
+    same_share : granted (draw_for s k t) ≡ share_asked
     unfolding draw_says
     same_share = rw (q.who, q.second)
 

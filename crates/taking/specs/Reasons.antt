@@ -11,13 +11,14 @@ use Rattle.model.specs.Settings.{usable_at}
 use Rattle.model.specs.Class.{class_of}
 use Rattle.model.specs.Book.{granted}
 use Rattle.model.specs.Judge.{Ask}
+use Rattle.model.specs.Codes.{draw_reason, room_reason}
 use Rattle.model.specs.Reason.{rules, first_rule, reason}
 use Rattle.model.specs.Words.{State}
 use Rattle.model.specs.Calls.{register_at}
 use Rattle.register.specs.declared.peeking.Seen.{Seen}
 use Rattle.register.specs.Seen.{Sees, seen_by, left_by, judge_rule, room_left}
 use Rattle.taking.specs.declared.tickets.Ticket.{Ticket}
-use Rattle.taking.specs.Rules.{share_for}
+use Rattle.taking.specs.Rules.{draw_for}
 
 -- ---- what was seen of a register
 abbrev pub SeenAt : Settings → ℕ → Seen → Type 0
@@ -30,27 +31,12 @@ seen_at s r ms t = seen_by (usable_at s r) ms (register_at r t)
 unfoldable pub judge_reason : Settings → ℕ → Seen → Ask → State → Reason
 judge_reason s r seen a t = judge_rule (usable_at s r) seen a (register_at r t)
 
-abbrev pub draw_reason : Draw → Reason
-draw_reason Draws.Granted = Accepted
-draw_reason Draws.Closed = Closed
-draw_reason Draws.OwnShare = OwnShare
-draw_reason Draws.ClassLimit = ClassLimit
-draw_reason Draws.EqualPart = EqualPart
-draw_reason Draws.TwiceLimit = TwiceLimit
-draw_reason Draws.Places = Places
-draw_reason Draws.Pairs = Pairs
-
 unfoldable pub room_seen : Settings → ℕ → Seen → Ticket → State → Room
-room_seen s r seen k t = room_left (usable_at s r) seen (class_of k.who) k.bucket.0 k.fp (register_at r t)
-
-abbrev pub room_reason : Room → Reason
-room_reason (At i) = Accepted
-room_reason Collides = Position
-room_reason NoSlots = Slots
+room_seen s r seen k t = room_left (usable_at s r) seen (class_of k.who) k.bucket.0 k.fp.word (register_at r t)
 
 unfoldable pub share_reason : Settings → ℕ → Seen → Ticket → State → Reason
 share_reason s r seen k t =
-    cond (granted (share_for s k t).draw) (room_reason (room_seen s r seen k t)) (draw_reason (share_for s k t).draw)
+    cond (granted (draw_for s k t)) (room_reason (room_seen s r seen k t)) (draw_reason (draw_for s k t))
 
 -- ---- all rules, on the register that the sweep would leave; and after judge's sweep
 unfoldable pub reason_seen : Settings → ℕ → Seen → Ask → State → Reason

@@ -1,7 +1,7 @@
 -- The model's rules of a take, as the functions of this crate name them.
-use Rattle.std.specs.Prelude.{ℕ, ◌≤◌, ◌<◌, ◌≡◌, Bool, cond, List}
+use Rattle.std.specs.Prelude.{ℕ, ◌≤◌, ◌≡◌, Bool, cond, List, Result, Ok, Err}
 use Rattle.model.specs.declared.Deliverer.{Deliverer}
-use Rattle.model.specs.declared.Draw.TheVariants.{Granted as Had}
+use Rattle.model.specs.declared.Draw.{Draw}
 use Rattle.model.specs.declared.Limits.{Limits}
 use Rattle.model.specs.declared.Manner.{Manner}
 use Rattle.model.specs.declared.Manner.TheVariants.{Judged, JudgedBatch, Taken as TakenManner, TakenBatch}
@@ -23,46 +23,46 @@ use Rattle.model.specs.Words.{State}
 use Rattle.model.specs.Calls.{register_at, with_register, with_book}
 use Rattle.book.specs.declared.Spot.{Spot}
 use Rattle.book.specs.ClassRules.{spot_of}
-use Rattle.taking.specs.declared.shares.Share.{Share}
 use Rattle.taking.specs.declared.tickets.Ticket.{Ticket}
 use Rattle.taking.specs.Words.{StateReads}
 
 -- ---- a ticket
--- numbers that every ticket keeps to
-pub record Proper (k : Ticket) : Type 0 where
-  pub print : 0 < k.fp
-  pub short : k.second.0 ≤ top32
-
 -- a ticket as it follows from a question
 pub record Suits (u : Usable) (a : Ask) (k : Ticket) : Type 0 where
   pub who : k.who ≡ a.who
-  pub fp : k.fp ≡ as_read a.fp
+  pub fp : k.fp.word ≡ as_read a.fp
   pub stamp : k.stamp ≡ a.stamp
   pub bucket : k.bucket.0 ≡ bucket_of u a.stamp
   pub second : k.second.0 ≡ second_of (bucket_of u a.stamp) u.bucket
-  pub proper : Proper k
 
--- ---- its share
-abbrev pub share_in : Shares → Limits → Bool → Deliverer → ℕ → List Place → Share
-share_in b l closed who s ps = record { spot = spot_of who s ps; draw = draw_test b l closed who s ps }
+-- ---- its share: where it may be entered, or the rule that stands against it
+abbrev pub by_draw : Spot → Draw → Result Spot Draw
+by_draw spot d = cond (granted d) (Ok spot) (Err d)
 
-abbrev pub share_for : Settings → Ticket → State → Share
+abbrev pub share_in : Shares → Limits → Bool → Deliverer → ℕ → List Place → Result Spot Draw
+share_in b l closed who s ps = by_draw (spot_of who s ps) (draw_test b l closed who s ps)
+
+abbrev pub share_for : Settings → Ticket → State → Result Spot Draw
 share_for s k t =
     share_in s.shares t.book.limits t.book.closed k.who k.second.0 (places_of (class_of k.who) t.book)
 
+-- what the book says to the draw
+abbrev pub draw_for : Settings → Ticket → State → Draw
+draw_for s k t = draw_test s.shares t.book.limits t.book.closed k.who k.second.0 (places_of (class_of k.who) t.book)
+
 -- looked up in these words, and granted
 abbrev pub Granted : Settings → Ticket → List ℕ → Spot → Type 0
-Granted s k ws spot = StateReads s (share_for s k) ws (record { spot = spot; draw = Had })
+Granted s k ws spot = StateReads s (share_for s k) ws (Ok spot)
 
 abbrev pub drawn_by : Settings → Ticket → State → State
 drawn_by s k t = with_book (drawn s.shares k.who k.second.0 t.book) t
 
 -- ---- its room
 abbrev pub room_for : Settings → ℕ → Ticket → State → Room
-room_for s r k t = make_room (usable_at s r).slots k.bucket.0 k.fp (pick (class_of k.who) (register_at r t).rings)
+room_for s r k t = make_room (usable_at s r).slots k.bucket.0 k.fp.word (pick (class_of k.who) (register_at r t).rings)
 
 abbrev pub struck_by : ℕ → Ticket → State → State
-struck_by r k t = with_register r (strike (class_of k.who) k.bucket.0 k.fp k.stamp (register_at r t)) t
+struck_by r k t = with_register r (strike (class_of k.who) k.bucket.0 k.fp.word k.stamp (register_at r t)) t
 
 abbrev pub room_verdict : Room → Verdict
 room_verdict (At i) = New
@@ -97,10 +97,10 @@ room_says s r k t = room_verdict (room_for s r k t)
 
 -- by its share
 abbrev pub taken_share : Settings → ℕ → Ticket → State → State
-taken_share s r k t = cond (granted (share_for s k t).draw) (taken_room s r k t) t
+taken_share s r k t = cond (granted (draw_for s k t)) (taken_room s r k t) t
 
 abbrev pub share_says : Settings → ℕ → Ticket → State → Verdict
-share_says s r k t = cond (granted (share_for s k t).draw) (room_says s r k t) Full
+share_says s r k t = cond (granted (draw_for s k t)) (room_says s r k t) Full
 
 -- what a take of the model leaves of a state
 abbrev pub left : ℕ → Taken → State → State

@@ -1,5 +1,6 @@
 pub mod Bounds
 pub mod Tests
 pub mod Turns
+pub mod Rings
 pub mod Entering
 pub mod Starting

@@ -36,6 +36,7 @@ fn start_at(s: Settings, starts: &[u64], register: usize) -> Result<Start, Refus
 }
 
 // The starts that an opening brings: 8 words, a code and a floor for each of four registers.
+// Four calls, each with `?`: a loop would first need an array of starts that are none.
 #[tactic(auto, unfolding(model::specs::Calls::starts_fit))]
 pub fn starts_of(s: Settings, starts: &[u64]) -> Result<[Start; 4], Refusal>
     ensures { result ≡ listed (starts_fit s starts.now) (starts_read s starts.now) }

@@ -11,13 +11,15 @@ use numbers::{bounds, starts};
 
 mod handed;
 mod sound;
+mod vetted;
 
 pub use handed::{limits_of, starts_of};
+pub use vetted::Vetted;
 
-// Settings of 29 words, each in its bounds, or 1: the words that they need. The settings themselves are read by whoever needs them:
-// 29 numbers by value would cost more than reading them again.
+// Settings of 29 words, each in its bounds, or 1. It is inlined, so that vetting copies them once.
+#[inline(always)]
 #[tactic(auto, unfolding(crate::specs::Vetted::unfit_alone, model::specs::Calls::first_met, model::specs::Calls::settings_words_fit))]
-pub fn settings_entry(settings: &[u64]) -> Result<usize, Refusal>
+pub fn settings_entry(settings: &[u64]) -> Result<Vetted, Refusal>
     ensures { Enters settings.now (unfit_alone settings.now) result }
 {
     if settings.len() != bounds::SETTINGS {
@@ -27,20 +29,21 @@ pub fn settings_entry(settings: &[u64]) -> Result<usize, Refusal>
     if !bounds::settings_fit(s) {
         return Err(Refusal::Unfit);
     }
-    Ok(starts::needed(s))
+    let need = starts::needed(s);
+    Ok(Vetted { s, need })
 }
 
-// The first refusal that the settings and the words cause, 1, 2 or 3, or the words that the settings need. A call tests its own codes
-// before it.
-pub fn vet(settings: &[u64], words: &[u64]) -> Result<usize, Refusal>
+// The settings with the words that they need, or the first refusal that the settings and the words cause, 1, 2 or 3. A call tests its
+// own codes before it.
+pub fn vet(settings: &[u64], words: &[u64]) -> Result<Vetted, Refusal>
     ensures { EntersWithin settings.now words.now (vetted settings.now words.now) result }
 {
-    let need = settings_entry(settings)?;
-    if words.len() < need {
+    let entry = settings_entry(settings)?;
+    if words.len() < entry.need {
         return Err(Refusal::TooFewWords);
     }
-    if !sound::words_sound(bounds::settings_of(settings), need, words) {
+    if !sound::words_sound(&entry, words) {
         return Err(Refusal::UnsoundWords);
     }
-    Ok(need)
+    Ok(entry)
 }

@@ -1,6 +1,7 @@
 use Rattle.std.proofs.Common.{ap, ◌∙◌, arith, eqb}
 use Rattle.std.specs.Bool.{then_some}
-use Rattle.book.proofs.Finding.{units_small, draw_says, some_holder, take_asks}
+use Rattle.book.proofs.Finding.{draw_says, some_holder, take_asks}
+use Rattle.numbers.proofs.PlaceUnits.{units_small}
 use Rattle.model.proofs.Places.{limit_fits}
 use Rattle.model.specs.Class.{class_of}
 use Rattle.book.proofs.draw.Goals as goal
@@ -23,11 +24,11 @@ judge-requires c =
     let s = c.args in
     let pre = c.requires in
     let o = c.then_some.ensures ∙ ap (then_some (eqb s.spot.seen.entries 0)) c.place_units-place.ensures in
-    (some_holder s.shares s.limits s.closed s.who s.part.now s.spot pre.0 _ _ _ o c.read-totals.ensures c.take.ensures, limit_fits s.limits (class_of s.who) pre.1)
+    (some_holder s.shares s.terms.limits s.terms.closed s.who s.part.now s.spot pre.0 _ _ _ o c.read-totals.ensures c.take.ensures, limit_fits s.terms.limits (class_of s.who) pre.1)
 
 pub returns : goal.returns
 returns c =
     let s = c.args in
     let o = c.then_some.ensures ∙ ap (then_some (eqb s.spot.seen.entries 0)) c.place_units-place.ensures in
-    draw_says s.shares s.limits s.closed s.who s.part.now s.spot c.requires.0 _ _ _ _ _ _ _ c.place_units-place.ensures o c.read-totals.ensures
-    c.take.ensures c.is_ok.ensures.value c.room-room.ensures c.judge.ensures
+    draw_says s.shares s.terms.limits s.terms.closed s.who s.part.now s.spot c.requires.0 _ _ _ _ _ _ c.place_units-place.ensures o c.read-totals.ensures
+    c.take.ensures c.room-room.ensures c.judge.ensures

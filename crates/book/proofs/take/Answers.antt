@@ -1,5 +1,6 @@
-use Rattle.std.proofs.Common.{sym, ◌∙◌}
-use Rattle.book.proofs.Entering.{found_of, refused, roomy_of, granted_turns}
+use Rattle.std.proofs.Common.{ap}
+use Rattle.model.specs.Book.{granted}
+use Rattle.book.proofs.Entering.{not_granted, found_of, refused, roomy_of, granted_turns}
 use Rattle.book.proofs.take.Goals as goal
 
 pub draw-answer-requires : goal.draw-answer-requires
@@ -11,17 +12,17 @@ draw-answer-requires c =
 pub enter-requires : goal.enter-requires
 enter-requires c =
     let s = c.args in
-    roomy_of s.shares s.who s.second.0 s.part.now c.requires.0 _ c.find-spot.ensures s.limits s.closed _ c.draw-answer.ensures
-    (sym c.is_granted.ensures ∙ c.if-is_granted.true)
+    roomy_of s.shares s.who s.second.0 s.part.now c.requires.0 _ c.find-spot.ensures s.terms.limits s.terms.closed _ c.draw-answer.ensures
+    (ap granted c.in-Granted.is)
 
-pub returns-then-is_granted : goal.returns-then-is_granted
-returns-then-is_granted c =
+pub returns-in-Granted : goal.returns-in-Granted
+returns-in-Granted c =
     let s = c.args in
-    granted_turns s.shares s.who s.second.0 s.part.now c.requires.0 _ c.find-spot.ensures s.limits s.closed _ c.draw-answer.ensures
-    (sym c.is_granted.ensures ∙ c.if-is_granted.true) _ c.enter.ensures
+    granted_turns s.shares s.who s.second.0 s.part.now c.requires.0 _ c.find-spot.ensures s.terms.limits s.terms.closed _ c.draw-answer.ensures
+    (ap granted c.in-Granted.is) _ c.enter.ensures
 
-pub returns-else-is_granted : goal.returns-else-is_granted
-returns-else-is_granted c =
+pub returns-in_default : goal.returns-in_default
+returns-in_default c =
     let s = c.args in
-    refused s.shares s.who s.second.0 s.part.now c.requires.0 _ c.find-spot.ensures s.limits s.closed _ c.draw-answer.ensures
-    (sym c.is_granted.ensures ∙ c.if-is_granted.false)
+    refused s.shares s.who s.second.0 s.part.now c.requires.0 _ c.find-spot.ensures s.terms.limits s.terms.closed _ c.draw-answer.ensures
+    (not_granted _ c.in_default.not-Granted)

@@ -4,13 +4,13 @@ use Rattle.book.specs.declared.totals.Totals.{Totals}
 use Rattle.book_expiry.proofs.Ended.{kept_within, ends}
 use Rattle.book_expiry.proofs.expire_pairs.Goals as goal
 
-pub overflow_sub-entries : goal.overflow_sub-entries
-overflow_sub-entries c =
+pub overflow_sub-gone : goal.overflow_sub-gone
+overflow_sub-gone c =
     let s = c.args in
     (kept_within s.shares s.class s.t s.part.now c.requires _ _ c.expire_places-kept.ensures _ c.read-totals.ensures).0
 
-pub overflow_sub-units : goal.overflow_sub-units
-overflow_sub-units c =
+pub overflow_sub-gone-3 : goal.overflow_sub-gone-3
+overflow_sub-gone-3 c =
     let s = c.args in
     (kept_within s.shares s.class s.t s.part.now c.requires _ _ c.expire_places-kept.ensures _ c.read-totals.ensures).2
 

@@ -4,4 +4,4 @@ pub expire-requires : goal.expire-requires
 expire-requires g c =
     let is_class = c.is_class-sound in
     let if1 = c.if-not-sound in
-    rw c.shares.ensures (is_class.ensures if1.false, c.requires)
+    (is_class.ensures if1.false, c.requires)

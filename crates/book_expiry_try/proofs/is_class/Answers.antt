@@ -7,7 +7,7 @@ pub returns-then-words-ne-WORDS : goal.returns-then-words-ne-WORDS
 returns-then-words-ne-WORDS c = λ t. no (cc)
 
 pub class_sound-requires : goal.class_sound-requires
-class_sound-requires c = in_bounds _ c.shares.ensures _ c.if-words-ne-WORDS.false
+class_sound-requires c = in_bounds _ c.if-words-ne-WORDS.false
 
 pub returns : goal.returns
-returns c = λ t. is_class _ c.if-words-ne-WORDS.false (sym (rw c.shares.ensures at c.class_sound.ensures) ∙ t)
+returns c = λ t. is_class _ c.if-words-ne-WORDS.false (sym c.class_sound.ensures ∙ t)

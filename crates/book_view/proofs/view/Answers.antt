@@ -6,14 +6,14 @@ returns-in_default c = stranger_viewed c.args.who c.requires.0 c.in_default.ensu
 
 pub slice_bounds-put_place-end : goal.slice_bounds-put_place-end
 slice_bounds-put_place-end c =
-    here_inside c.args.who c.requires.0 c.in-Some.ensures c.place_start-start.ensures.0 c.place_width.ensures.0
+    here_inside c.args.who c.requires.0 c.in-Some.ensures c.place_extent.ensures.start c.place_extent.ensures.end
 
 pub put_place-requires : goal.put_place-requires
 put_place-requires c = (
-  here_wide c.args.who c.requires.0 c.in-Some.ensures c.place_start-start.ensures.0 c.place_width.ensures.0,
-  here_fits c.args.who c.requires.0 c.in-Some.ensures c.place_start-start.ensures.0 c.place_width.ensures.0 c.requires.1,
+  here_wide c.args.who c.requires.0 c.in-Some.ensures c.place_extent.ensures.start c.place_extent.ensures.end,
+  here_fits c.args.who c.requires.0 c.in-Some.ensures c.place_extent.ensures.start c.place_extent.ensures.end c.requires.1,
 )
 
 pub returns : goal.returns
 returns c =
-    here_viewed c.args.who c.requires.0 c.in-Some.ensures c.place_start-start.ensures.0 c.place_width.ensures.0 c.put_place.ensures
+    here_viewed c.args.who c.requires.0 c.in-Some.ensures c.place_extent.ensures.start c.place_extent.ensures.end c.put_place.ensures

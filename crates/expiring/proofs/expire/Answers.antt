@@ -1,16 +1,15 @@
-use Rattle.expiring.proofs.Passing.{second_low, all_done}
+use Rattle.expiring.proofs.Passing.{second_low, expiring_start, expiring_on, expiring_end}
 use Rattle.expiring.proofs.expire.Goals as goal
 
+pub loop-class-init : goal.loop-class-init
+loop-class-init c = expiring_start c.args.s _ _ c.requires
+
 pub expire_class-requires : goal.expire_class-requires
-expire_class-requires c = search second_low
+expire_class-requires c = (c.loop-class.invariant.words, second_low _ _ c.from-t.ensures)
 
-pub expire_class-requires-2 : goal.expire_class-requires-2
-expire_class-requires-2 c = search second_low
-
-pub expire_class-requires-3 : goal.expire_class-requires-3
-expire_class-requires-3 c = search second_low
+pub loop-class-preserved : goal.loop-class-preserved
+loop-class-preserved c =
+    expiring_on c.args.s _ _ (second_low _ _ c.from-t.ensures) _ _ _ c.loop-class.invariant c.loop-class-test.true c.expire_class.ensures
 
 pub returns : goal.returns
-returns c =
-    all_done c.args.s c.args.reading.0 _ _ _ c.div_ceil.ensures c.min.ensures c.args.run.now _ _ _ c.least_published-least.ensures
-    c.expire_class.ensures.1 c.expire_class-2.ensures.1 c.expire_class-3.ensures.1
+returns c = expiring_end c.args.s _ _ _ _ c.loop-class.invariant c.loop-class-test.false _ _ c.from-t.ensures c.least_published-least.ensures

@@ -8,7 +8,8 @@ pub returns : goal.returns
 returns c =
     let h = c.of-head in
     let some = c.if-head-eq0.false in
-    let cleared = c.fill.ensures.after (λ y e. e) in
+    let at = c.live.ensures in
+    let cleared = rw (at.start, at.end) at (c.fill.ensures.after (λ y e. e)) in
     let o = c.open.ensures in
-    rw c.lead.ensures
+    rw (c.lead.ensures, at.start, at.end)
     (drops_all c.args.part.now h.result h.ensures some _ cleared _ (rw o))

@@ -1,8 +1,11 @@
 use Rattle.generation.proofs.Inserting.{inserts}
 use Rattle.generation.proofs.insert.Goals as goal
 
+pub grow-requires : goal.grow-requires
+grow-requires c = let p = c.requires in (p.0, p.1.room _ c.contains-known.ensures)
+
 pub returns : goal.returns
 returns c =
     let p = c.requires in
-    let grown = c.grow.ensures.1 in
-    inserts _ _ _ _ _ _ _ p.0.1 p.1.1 grown c.enter.ensures
+    let known = c.contains-known.ensures in
+    inserts _ _ _ _ _ _ _ known (p.1.room _ known) c.grow.ensures.1 c.enter.ensures

@@ -1,11 +1,9 @@
-use Rattle.dump.proofs.Writes.{may_walk}
+use Rattle.std.proofs.Common.{rules}
 use Rattle.register_view.proofs.Views.{view_fits, view_wrote}
 use Rattle.register_view.proofs.view.Goals as goal
 
-pub put_rings-requires : goal.put_rings-requires
-put_rings-requires c =
-    let s = c.shape_of.ensures in
-    record { laid = may_walk _ _ c.requires.0 s.wide s.ring; fits = view_fits c.requires.0 s.wide s.ring c.requires.1 }
+pub show-requires : goal.show-requires
+show-requires c = let s = c.of.ensures in view_fits c.requires.0 s.words s.slots s.ring c.requires.1
 
 pub returns : goal.returns
-returns c = view_wrote c.requires.0 c.shape_of.ensures.wide c.shape_of.ensures.ring c.put_rings.ensures
+returns c = let s = c.of.ensures in view_wrote c.requires.0 s.words s.slots s.ring c.show.ensures.puts (search rules)

@@ -5,6 +5,6 @@ use Rattle.restoring.proofs.restore.Goals as goal
 
 pub returns : goal.returns
 returns c =
-    let restore-dump = c.restore_dump in
-    let a = restore-dump.ensures in
-    (a.0, restore_turns c.args.s c.args.r c.requires.0.1 (dump_at (words_of c.args.bytes.now)) c.args.run.now _ _ a.1)
+    let on = c.args.on.now in
+    let a = c.restore_dump.ensures in
+    (a.0, restore_turns on.s on.r on.at.below (dump_at (words_of c.args.dump.now.bytes.now)) c.args.run.now _ _ a.1)

@@ -5,9 +5,10 @@ use Rattle.restoring.proofs.resume.Goals as goal
 
 pub returns : goal.returns
 returns c =
+    let on = c.args.on.now in
     let a = c.restore_dump-whole.ensures in
     let e = c.raise_floor.ensures in (
       e.0,
-      resume_raised c.args.s c.args.r c.requires.0.1 (dump_at (words_of c.args.bytes.now)) c.args.proven c.args.run.now _ _ _
+      resume_raised on.s on.r on.at.below (dump_at (words_of c.args.dump.now.bytes.now)) c.args.proven c.args.run.now _ _ _
           _ c.forget_floor.ensures.1 a.1 e.1,
     )

@@ -1,3 +1,4 @@
+use mathlib.Core.Path.{◌∙◌}
 use Rattle.ring.proofs.Chunks.{from_start, chunk_bounded, chunk_reads, below, from_next, from_end}
 use Rattle.ring.proofs.Finding.{look_start, look_on, look_end}
 use Rattle.ring.proofs.contains_any.Goals as goal
@@ -7,14 +8,14 @@ loop-part-init c =
     let made = c.chunks_exact-part-items.ensures in
     rw (c.into_iter-part-iterator.ensures.into_iter_gives, made.rest) (record {
       i = 0;
-      from = from_start _ _ _ _ made.size c.requires.1.sized.long;
+      from = from_start _ _ _ _ (made.size ∙ c.width.ensures) c.requires.long;
       looked = look_start _ _ _ _;
     })
 
 pub contains-any-requires : goal.contains-any-requires
 contains-any-requires c =
     let l = c.loop-part.invariant in
-    (c.requires.0, chunk_bounded _ _ _ _ _ _ l.from c.in-Some.part.now c.next.new.self.rest.now c.in-Some.ensures.steps.1 c.requires.1)
+    chunk_bounded _ _ _ _ _ _ l.from c.in-Some.part.now c.next.new.self.rest.now c.in-Some.ensures.steps.1 c.args.shape.small c.requires
 
 pub loop-part-preserved : goal.loop-part-preserved
 loop-part-preserved c =

@@ -5,4 +5,4 @@ use Rattle.ring.proofs.contains_any.Given as goal
 abbrev pub invariant-loop-part : goal.invariant-loop-part
 invariant-loop-part l =
     let shape = l.fn.shape in
-    LookedThrough shape.slots shape.ring l.fp l.words l.part-iterator.size l.part-iterator.rest.now l.any
+    LookedThrough shape.slots shape.ring l.fp.word l.words l.part-iterator.size l.part-iterator.rest.now l.any

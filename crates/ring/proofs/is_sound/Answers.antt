@@ -1,4 +1,4 @@
-use mathlib.Core.Path.{refl}
+use mathlib.Core.Path.{refl, ◌∙◌}
 use Rattle.runs.proofs.Walk.{walk_start, walk_on, pass_end}
 use Rattle.runs.specs.Combine.{form_at}
 use Rattle.model.specs.GenerationWords.{generation_place}
@@ -11,7 +11,7 @@ loop-i-init c =
     let made = c.chunks_exact.ensures in
     let counts = c.enumerate-i-items.ensures in
     rw (c.into_iter-i-iterator.ensures.into_iter_gives, counts.source, counts.count, made.rest)
-    (from_start _ _ _ _ made.size c.requires.long, walk_start (generation_place a.shape.slots a.shape.ring) a.shape.ring _)
+    (from_start _ _ _ _ (made.size ∙ c.width.ensures) c.requires, walk_start (generation_place a.shape.slots a.shape.ring) a.shape.ring _)
 
 pub loop-i-preserved : goal.loop-i-preserved
 loop-i-preserved c =

@@ -1,4 +1,3 @@
-use native.Mathlib.Omega.{arith}
 use mathlib.Core.Path.{sym, ◌∙◌}
 use Rattle.ring.proofs.Positions.{sound_words}
 use Rattle.ring_try.proofs.is_ring.Goals as goal
@@ -6,4 +5,4 @@ use Rattle.ring_try.proofs.is_ring.Goals as goal
 pub returns-then-words-eq-WORDS : goal.returns-then-words-eq-WORDS
 returns-then-words-eq-WORDS c =
     let l = c.if-words-eq-WORDS.true in
-    λ t. sound_words 4 3 c.args.words.now (record { some = omega arith; few = omega arith; small = omega arith; long = l }) (sym c.is_sound.ensures ∙ t)
+    λ t. sound_words 4 3 c.args.words.now l (sym c.is_sound.ensures ∙ t)

@@ -10,7 +10,9 @@ unfolding deed_fits
 returns-in_err-at c = deed_refused begun_or_already _ _ _ _ _ _ c.from_residual.ensures.1 refl c.in_err-at.ensures
 
 pub begin-requires : goal.begin-requires
-begin-requires c = words_least c.in_ok-at.ensures
+begin-requires c = let w = c.words.ensures in rw (w.start, w.end) (words_least c.in_ok-at.ensures)
 
 pub returns : goal.returns
-returns c = begun c.in_ok-at.ensures search
+returns c =
+    let w = c.words.ensures in
+    rw (w.start, w.end) (begun c.in_ok-at.ensures (λ u. rw (w.start, w.end) at c.begin.ensures.register_turns u))

@@ -12,4 +12,4 @@ pub held_of-requires : goal.held_of-requires
 held_of-requires c = totals_there c.in_ok-at.ensures
 
 pub returns : goal.returns
-returns c = totals_told c.in_ok-at.ensures _ c.in_ok-named.ensures search
+returns c = totals_told c.in_ok-at.ensures _ c.in_ok-named.ensures c.held_of.ensures.class_reads

@@ -15,7 +15,7 @@ pub returns-in_err-at : goal.returns-in_err-at
 returns-in_err-at c = reader_refused _ _ _ (tells _) _ _ c.from_residual.ensures.1 c.in_err-at.ensures
 
 pub contains_hash-requires : goal.contains_hash-requires
-contains_hash-requires c = words_there c.in_ok-at.ensures
+contains_hash-requires c = let w = c.words.ensures in rw (w.start, w.end) (words_there c.in_ok-at.ensures)
 
 pub returns : goal.returns
-returns c = told_by c.in_ok-at.ensures (tells _) search
+returns c = let w = c.words.ensures in told_by c.in_ok-at.ensures (tells _) (rw (w.start, w.end) at c.contains_hash.ensures)

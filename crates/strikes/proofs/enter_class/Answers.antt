@@ -1,20 +1,10 @@
-use Rattle.strikes.proofs.Entering.{class_exit, long_settings, fits_read, shares_within, class_adds, class_there}
+use Rattle.strikes.proofs.Entering.{class_exit, class_there}
 use Rattle.strikes.proofs.enter_class.Goals as goal
 
-pub returns-in_err-vet : goal.returns-in_err-vet
-returns-in_err-vet c = class_exit _ _ _ _ _ c.from_residual.ensures.1 c.in_err-vet.ensures
-
-pub settings_of-s-requires : goal.settings_of-s-requires
-settings_of-s-requires c = long_settings c.in_ok-vet.ensures
-
-pub class_start-start-requires : goal.class_start-start-requires
-class_start-start-requires c = fits_read c.in_ok-vet.ensures c.settings_of-s.ensures
-
-pub class_width-width-requires : goal.class_width-width-requires
-class_width-width-requires c = shares_within c.in_ok-vet.ensures c.settings_of-s.ensures
-
-pub overflow_add-result : goal.overflow_add-result
-overflow_add-result c = search (class_adds c.in_ok-vet.ensures)
+pub returns-in_err-vetted : goal.returns-in_err-vetted
+returns-in_err-vetted c = class_exit _ _ _ _ _ c.from_residual.ensures.1 c.in_err-vetted.ensures
 
 pub returns : goal.returns
-returns c = search (class_there c.in_ok-vet.ensures)
+returns c =
+    let class = c.class_extent-words.ensures in
+    class_there c.in_ok-vetted.ensures c.args.class _ _ class.start class.end class.within

@@ -6,7 +6,7 @@ pub returns-in_err-at : goal.returns-in_err-at
 returns-in_err-at c = reader_refused _ _ _ tells_floor _ _ c.from_residual.ensures.1 c.in_err-at.ensures
 
 pub floor-requires : goal.floor-requires
-floor-requires c = words_least c.in_ok-at.ensures
+floor-requires c = let w = c.words.ensures in rw (w.start, w.end) (words_least c.in_ok-at.ensures)
 
 pub returns : goal.returns
-returns c = told_by c.in_ok-at.ensures tells_floor (c.floor.ensures.register_reads _)
+returns c = let w = c.words.ensures in told_by c.in_ok-at.ensures tells_floor (rw (w.start, w.end) at c.floor.ensures.register_reads _)

@@ -9,7 +9,7 @@ pub returns-in_err-at : goal.returns-in_err-at
 returns-in_err-at c = held_refused Entries _ _ _ _ c.from_residual-in_err-at.ensures.1 _ _ _ c.in_ok-who.ensures c.in_err-at.ensures
 
 pub held_by-requires : goal.held_by-requires
-held_by-requires c = deliverer_lies c.in_ok-at.ensures _ c.class_of.ensures
+held_by-requires c = deliverer_lies c.in_ok-at.ensures _ c.from.ensures
 
 pub returns : goal.returns
-returns c = entries_told c.in_ok-at.ensures _ c.class_of.ensures _ _ c.in_ok-who.ensures search
+returns c = entries_told c.in_ok-at.ensures _ c.from.ensures _ _ c.in_ok-who.ensures c.held_by.ensures

@@ -12,7 +12,7 @@ pub returns-in_err-at : goal.returns-in_err-at
 returns-in_err-at c = reader_refused _ _ _ tells _ _ c.from_residual.ensures.1 c.in_err-at.ensures
 
 pub is_pending-requires : goal.is_pending-requires
-is_pending-requires c = words_least c.in_ok-at.ensures
+is_pending-requires c = let w = c.words.ensures in rw (w.start, w.end) (words_least c.in_ok-at.ensures)
 
 pub returns : goal.returns
-returns c = told_by c.in_ok-at.ensures tells (c.is_pending.ensures.register_reads _)
+returns c = let w = c.words.ensures in told_by c.in_ok-at.ensures tells (rw (w.start, w.end) at c.is_pending.ensures.register_reads _)

@@ -1,5 +1,4 @@
 use Rattle.model.specs.Calls.{stamp_answer}
-use Rattle.strikes.proofs.Entering.{long_settings}
 use Rattle.strikes.proofs.OnWhole.{run_there}
 use Rattle.strikes.proofs.Runs.{seek_ask_refused, seek_wanted_refused, seek_refused, was_sought}
 use Rattle.strikes.proofs.stamp_for.Goals as goal
@@ -10,14 +9,11 @@ returns-in_err-ask c = seek_ask_refused _ _ _ _ stamp_answer _ _ c.from_residual
 pub returns-in_err-verdict : goal.returns-in_err-verdict
 returns-in_err-verdict c = seek_wanted_refused _ _ _ _ c.in_ok-ask.ensures stamp_answer _ _ c.from_residual-in_err-verdict.ensures.1 c.in_err-verdict.ensures
 
-pub returns-in_err-need : goal.returns-in_err-need
-returns-in_err-need c = seek_refused _ _ _ _ c.in_ok-ask.ensures c.in_ok-verdict.ensures stamp_answer _ _ c.from_residual-in_err-need.ensures.1 c.in_err-need.ensures
-
-pub settings_of-s-requires : goal.settings_of-s-requires
-settings_of-s-requires c = long_settings c.in_ok-need.ensures.enters
+pub returns-in_err-on : goal.returns-in_err-on
+returns-in_err-on c = seek_refused _ _ _ _ c.in_ok-ask.ensures c.in_ok-verdict.ensures stamp_answer _ _ c.from_residual-in_err-on.ensures.1 c.in_err-on.ensures
 
 pub stamp_for-requires : goal.stamp_for-requires
-stamp_for-requires c = run_there c.in_ok-need.ensures c.settings_of-s.ensures
+stamp_for-requires c = run_there c.in_ok-on.ensures
 
 pub returns : goal.returns
-returns c = was_sought _ _ _ _ c.in_ok-ask.ensures c.in_ok-verdict.ensures c.in_ok-need.ensures c.settings_of-s.ensures _ c.stamp_for.ensures
+returns c = was_sought _ _ _ _ c.in_ok-ask.ensures c.in_ok-verdict.ensures c.in_ok-on.ensures _ c.stamp_for.ensures

@@ -10,7 +10,7 @@ unfolding deed_fits
 returns-in_err-at c = deed_refused done _ _ _ _ _ _ c.from_residual.ensures.1 refl c.in_err-at.ensures
 
 pub sweep-requires : goal.sweep-requires
-sweep-requires c = words_there c.in_ok-at.ensures
+sweep-requires c = let w = c.words.ensures in rw (w.start, w.end) (words_there c.in_ok-at.ensures)
 
 pub returns : goal.returns
-returns c = swept_by c.in_ok-at.ensures search
+returns c = let w = c.words.ensures in rw (w.start, w.end) (swept_by c.in_ok-at.ensures (rw (w.start, w.end) at c.sweep.ensures.1))

@@ -10,13 +10,14 @@ pub returns-in_err-at : goal.returns-in_err-at
 returns-in_err-at c = deliverer_shut _ _ _ _ _ Viewed _ _ c.from_residual-in_err-at.ensures.1 c.in_ok-who.ensures c.in_err-at.ensures
 
 pub view_length-long-requires : goal.view_length-long-requires
-view_length-long-requires c = deliverer_lies c.in_ok-at.ensures _ c.class_of.ensures
+view_length-long-requires c = deliverer_lies c.in_ok-at.ensures _ c.from.ensures
 
 pub returns-then-out-long : goal.returns-then-out-long
-returns-then-out-long c = deliverer_short _ _ _ _ _ c.in_ok-who.ensures c.in_ok-at.ensures c.class_of.ensures c.view_length-long.ensures c.if-out-long.true
+returns-then-out-long c = deliverer_short _ _ _ _ _ c.in_ok-who.ensures c.in_ok-at.ensures c.from.ensures c.view_length-long.ensures c.if-out-long.true
 
 pub view-requires : goal.view-requires
-view-requires c = (deliverer_lies c.in_ok-at.ensures _ c.class_of.ensures, deliverer_holds _ c.view_length-long.ensures c.if-out-long.false)
+view-requires c = (deliverer_lies c.in_ok-at.ensures _ c.from.ensures, deliverer_holds _ c.view_length-long.ensures c.if-out-long.false)
 
 pub returns : goal.returns
-returns c = deliverer_told _ _ _ _ _ c.in_ok-who.ensures c.in_ok-at.ensures c.class_of.ensures c.view_length-long.ensures c.if-out-long.false search
+returns c =
+    deliverer_told _ _ _ _ _ c.in_ok-who.ensures c.in_ok-at.ensures c.from.ensures c.view_length-long.ensures c.if-out-long.false c.view.ensures

@@ -7,13 +7,19 @@ pub returns-in_err-at : goal.returns-in_err-at
 returns-in_err-at c = view_shut _ _ _ _ Viewed _ _ c.from_residual.ensures.1 c.in_err-at.ensures
 
 pub view_length-long-requires : goal.view_length-long-requires
-view_length-long-requires c = words_there c.in_ok-at.ensures
+view_length-long-requires c = let w = c.words.ensures in rw (w.start, w.end) (words_there c.in_ok-at.ensures)
 
 pub returns-then-out-long : goal.returns-then-out-long
-returns-then-out-long c = view_short _ _ _ _ c.in_ok-at.ensures c.view_length-long.ensures c.if-out-long.true
+returns-then-out-long c =
+    let w = c.words.ensures in
+    view_short _ _ _ _ c.in_ok-at.ensures (rw (w.start, w.end) at c.view_length-long.ensures) c.if-out-long.true
 
 pub view-requires : goal.view-requires
-view-requires c = (words_there c.in_ok-at.ensures, view_holds _ c.view_length-long.ensures c.if-out-long.false)
+view-requires c =
+    let w = c.words.ensures in
+    (rw (w.start, w.end) (words_there c.in_ok-at.ensures), view_holds _ c.view_length-long.ensures c.if-out-long.false)
 
 pub returns : goal.returns
-returns c = view_told _ _ _ _ c.in_ok-at.ensures c.view_length-long.ensures c.if-out-long.false search
+returns c =
+    let w = c.words.ensures in
+    view_told _ _ _ _ c.in_ok-at.ensures (rw (w.start, w.end) at c.view_length-long.ensures) c.if-out-long.false (rw (w.start, w.end) at c.view.ensures)

@@ -1,11 +1,12 @@
-use Rattle.taking.proofs.Taking.{granted_spot, no_share_turns, share_turns}
+use Rattle.taking.proofs.Taking.{no_share_turns, share_turns}
 use Rattle.taking.proofs.take_share.Goals as goal
 
-pub returns-then-not-is_granted : goal.returns-then-not-is_granted
-returns-then-not-is_granted c = search no_share_turns
-
-pub take_room-requires : goal.take_room-requires
-take_room-requires c = search granted_spot
+pub returns-in_default : goal.returns-in_default
+returns-in_default c =
+    let on = c.args.on.now in
+    no_share_turns on.s on.r c.args.ticket c.args.run.now _ (rw c.in_default.is at c.look_up.ensures)
 
 pub returns : goal.returns
-returns c = search share_turns
+returns c =
+    let on = c.args.on.now in
+    share_turns on.s on.r c.args.ticket c.args.run.now _ _ _ (rw c.in-Ok.is at c.look_up.ensures) c.take_room.ensures

@@ -5,5 +5,5 @@ use Rattle.book.proofs.place.open.Goals as goal
 pub returns : goal.returns
 returns c =
     let s = c.args in
-    let h = new_head s.who _ _ s.place.now (omega arith) c.kind_word.ensures c.id_word.ensures in
+    let h = new_head s.who _ s.place.now (omega arith) c.new_code-code.ensures in
     opens s.who s.second s.place.now _ _ (omega arith) h c.insert.ensures

@@ -1,5 +1,4 @@
 use mathlib.Core.Path.{refl, ◌∙◌}
-use native.Mathlib.Omega.{arith}
 use Rattle.book_sound.proofs.Chunks.{cut_off}
 use Rattle.book_sound.proofs.Adding.{adds_start, place_few, adds_end, adds_stop, adds_not, adds_on}
 use Rattle.book_sound.proofs.places.places_sound.Goals as goal
@@ -17,30 +16,18 @@ returns-then-not-in_use c =
 pub returns-then-not-place_sound : goal.returns-then-not-place_sound
 returns-then-not-place_sound c = adds_not c.loop-place.invariant.0 _ _ c.in-Some.ensures.steps.1 c.if-not-in_use.ensures c.if-not-place_sound.ensures
 
-pub overflow_add-sums : goal.overflow_add-sums
-overflow_add-sums c =
+pub with_place-sums-requires : goal.with_place-sums-requires
+with_place-sums-requires c =
+    let w = c.requires.few in
     let f = place_few c.loop-place.invariant.0 _ c.if-not-place_sound.ensures in
-    record { fits = omega arith }
-
-pub overflow_add-sums-in-loop-place-2 : goal.overflow_add-sums-in-loop-place-2
-overflow_add-sums-in-loop-place-2 c =
-    let f = place_few c.loop-place.invariant.0 _ c.if-not-place_sound.ensures in
-    let u = c.units_of.ensures.0 in
-    record { fits = omega arith }
-
-pub overflow_add-sums-in-loop-place-3 : goal.overflow_add-sums-in-loop-place-3
-overflow_add-sums-in-loop-place-3 c =
-    let f = place_few c.loop-place.invariant.0 _ c.if-not-place_sound.ensures in
-    let u = c.units_of.ensures.0 in
-    record { fits = omega arith }
+    (w.feeder, w.peer, f.0, f.1, f.2, f.3)
 
 pub loop-place-preserved : goal.loop-place-preserved
 loop-place-preserved c =
     let i = c.loop-place.invariant in
     let s = c.in-Some.ensures.steps in
-    let u = c.units_of.ensures in
     let cut = cut_off c.args.shares c.args.class _ _ s.1 i.0.wide c.place_width-width.ensures.0 i.1 in
-    (adds_on i.0 _ _ s.1 c.if-not-in_use.ensures c.if-not-place_sound.ensures u.0 u.1 s.0, cut)
+    (adds_on i.0 _ _ s.1 c.if-not-in_use.ensures c.if-not-place_sound.ensures c.requires.few.feeder c.requires.few.peer (c.with_place-sums.ensures _) s.0, cut)
 
 pub returns : goal.returns
 returns c = let i = c.loop-place.invariant in adds_end i.0 c.in-None.ensures.steps.1.0 i.1 c.agree-2.ensures

@@ -1,13 +1,19 @@
 -- The floor, and then the three classes.
 use Rattle.std.proofs.Common.{rules}
+use Rattle.model.specs.Widths.{generation_width}
 use Rattle.dump.proofs.Dumping.{told, floor_fits, classes_fit, dump_puts}
 use Rattle.dump.proofs.write.put_dump.Goals as goal
 
-pub put-next-requires : goal.put-next-requires
-put-next-requires c = floor_fits c.args.shape.wide c.args.shape.ring c.args.words.now c.requires.fits (told _ _ c.floor.ensures.value (search rules))
+pub put-requires : goal.put-requires
+put-requires c =
+    floor_fits (generation_width c.args.rings.shape.slots) c.args.rings.shape.ring c.args.rings.words.now c.requires (told _ _ c.floor.ensures.value (search rules))
 
-pub put_rings-requires-clause-fits : goal.put_rings-requires-clause-fits
-put_rings-requires-clause-fits c = classes_fit c.args.shape.wide c.args.shape.ring c.args.words.now c.requires.fits (told _ _ c.floor.ensures.value (search rules)) c.put-next.ensures
+pub show-requires : goal.show-requires
+show-requires c =
+    classes_fit (generation_width c.args.rings.shape.slots) c.args.rings.shape.ring c.args.rings.words.now c.requires (told _ _ c.floor.ensures.value (search rules))
+    c.put.ensures.puts
 
-pub returns : goal.returns
-returns c = dump_puts c.args.shape.wide c.args.shape.ring c.args.words.now c.requires.fits (told _ _ c.floor.ensures.value (search rules)) c.put-next.ensures c.put_rings.ensures
+pub returns-clause-puts : goal.returns-clause-puts
+returns-clause-puts c =
+    dump_puts (generation_width c.args.rings.shape.slots) c.args.rings.shape.ring c.args.rings.words.now c.requires (told _ _ c.floor.ensures.value (search rules))
+    c.put.ensures.puts c.show.ensures.puts

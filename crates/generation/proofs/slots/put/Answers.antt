@@ -12,4 +12,4 @@ pub returns-in_default : goal.returns-in_default
 returns-in_default c = puts_other c.args.slots.now _ c.find.ensures c.in_default.not-Free
 
 pub returns-in-Free : goal.returns-in-Free
-returns-in-Free c = puts_free c.args.slots.now _ c.find.ensures c.in-Free.is c.requires
+returns-in-Free c = puts_free c.args.slots.now _ c.find.ensures c.in-Free.is c.args.fp.some

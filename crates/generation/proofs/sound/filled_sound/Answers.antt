@@ -2,4 +2,4 @@ use Rattle.generation.proofs.Doubling.{three_quarters}
 use Rattle.generation.proofs.sound.filled_sound.Goals as goal
 
 pub returns : goal.returns
-returns c = let a = c.args in rw (c.is_power_of_two-power.ensures, three_quarters a.held a.slots)
+returns c = let h = c.args.head in rw (c.is_power_of_two-power.ensures, three_quarters h.held h.slots)

@@ -1,4 +1,3 @@
-use Rattle.register.proofs.Verdicts.{print_positive}
 use Rattle.register.proofs.Foreseen.{rule_pending, rule_flag, rule_held, rule_late}
 use Rattle.register.proofs.peeking.judge_after.Goals as goal
 
@@ -7,9 +6,6 @@ returns-then-is_pending c = search rule_pending
 
 pub returns-then-not-ask : goal.returns-then-not-ask
 returns-then-not-ask c = search rule_flag
-
-pub holder_after-requires : goal.holder_after-requires
-holder_after-requires c = search print_positive
 
 pub returns-in-Some : goal.returns-in-Some
 returns-in-Some c = search rule_held

@@ -10,6 +10,9 @@ returns-then-through-swept c =
 pub returns-else-through-swept : goal.returns-else-through-swept
 returns-else-through-swept c =
     let on = c.if-through-swept.false in
+    let rings = c.of-rings in
+    let seen = rw rings.ensures at c.see_rings.ensures in
+    let from = rw (rings.result.sizes.ring, rings.ensures) at c.sweep_from.ensures in
     let t = seen_on c.args.u c.args.reading.0 c.args.part.now _ c.through_of-through.ensures _ c.floor-floor.ensures.register_reads _ c.is_pending.ensures.register_reads
-    on.0 on.1 _ (rw (← c.rings_of-rings.ensures.ring) c.sweep_from.ensures) _ c.see_rings.ensures in
+    on.0 on.1 _ from _ seen in
     (seen_few c.args.u c.args.reading.0 _ _ c.requires t, t)

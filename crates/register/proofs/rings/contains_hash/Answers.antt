@@ -1,16 +1,18 @@
-use Rattle.register.proofs.Verdicts.{print_positive, hash_reads}
+use Rattle.std.proofs.Common.{rules}
+use Rattle.std.proofs.lemmas.Iterator.{YieldsList-from_slice}
+use Rattle.std.proofs.lemmas.Iterator.Search.{any_from_yields_List}
+use Rattle.model.specs.Class.{pick, classes}
+use Rattle.model.specs.Generation.{as_read}
+use Rattle.model.specs.Register.{holds_any}
+use Rattle.register.specs.Words.{RegisterReads}
+use Rattle.register.proofs.Verdicts.{any_reads}
 use Rattle.register.proofs.rings.contains_hash.Goals as goal
-
-pub holds_hash-feeders-requires : goal.holds_hash-feeders-requires
-holds_hash-feeders-requires c = ((print_positive _ _ c.as_read-print.ensures, c.requires), c.rings_of-rings.ensures)
-
-pub holds_hash-peers-requires : goal.holds_hash-peers-requires
-holds_hash-peers-requires c = ((print_positive _ _ c.as_read-print.ensures, c.requires), c.rings_of-rings.ensures)
-
-pub holds_hash-own-requires : goal.holds_hash-own-requires
-holds_hash-own-requires c = ((print_positive _ _ c.as_read-print.ensures, c.requires), c.rings_of-rings.ensures)
 
 pub returns : goal.returns
 returns c =
-    let holds-hash = c.holds_hash-feeders in
-    hash_reads _ c.args.fp _ _ _ _ _ c.as_read-print.ensures holds-hash.ensures c.holds_hash-peers.ensures c.holds_hash-own.ensures
+    let f = holds_any (as_read c.args.fp) in
+    any_reads c.args.u f c.args.part.now c.any.result (λ reg ok is.
+    any_from_yields_List (λ class. f (pick class reg.rings)) _ _ _ c.any.ensures.ran (YieldsList-from_slice classes (search rules))
+    (λ x r q k.
+    let t : RegisterReads c.of-rings.result.u (λ reg. holds_any c.from-print.result.word (pick x.now reg.rings)) c.args.part.now r = search rules in
+    (search rules, (rw (c.of-rings.ensures, c.from-print.ensures) at t).says reg ok is)))

@@ -1,12 +1,17 @@
+use Rattle.std.proofs.Common.{rules}
+use Rattle.std.proofs.lemmas.Iterator.{YieldsList-from_slice}
+use Rattle.std.proofs.lemmas.Iterator.Search.{any_from_yields_List}
+use Rattle.model.specs.Class.{pick, classes}
 use Rattle.model.specs.Register.{holds}
-use Rattle.register.proofs.InRings.{position_asks}
+use Rattle.register.specs.Words.{RegisterReads}
 use Rattle.register.proofs.Verdicts.{any_reads}
 use Rattle.register.proofs.rings.holds_any_class.Goals as goal
 
-pub position-at-requires : goal.position-at-requires
-position-at-requires c = position_asks _ _ c.rings_of-rings.ensures c.requires.1.fit
-
 pub returns : goal.returns
 returns c =
-    let holds_in = c.holds_in-feeders in
-    any_reads _ (holds c.args.bucket.0 c.args.fp) _ _ _ _ holds_in.ensures c.holds_in-peers.ensures c.holds_in-own.ensures
+    let f = holds c.args.bucket.0 c.args.fp.word in
+    any_reads c.args.u f c.args.part.now c.any.result (λ reg ok is.
+    any_from_yields_List (λ class. f (pick class reg.rings)) _ _ _ c.any.ensures.ran (YieldsList-from_slice classes (search rules))
+    (λ x r q k.
+    let t : RegisterReads c.of-rings.result.u (λ reg. holds c.position_of-position.result.bucket.0 c.args.fp.word (pick x.now reg.rings)) c.args.part.now r = search rules in
+    (search rules, (rw (c.of-rings.ensures, c.position_of-position.ensures.bucket) at t).says reg ok is)))

@@ -2,7 +2,7 @@ use Rattle.register.proofs.InRings.{ring_asks, ring_reads}
 use Rattle.register.proofs.rings.holds_hash.Goals as goal
 
 pub contains_any-requires : goal.contains_any-requires
-contains_any-requires c = (c.requires.0.0, ring_asks _ _ _ c.extent_in-at.ensures c.args.part.now c.requires.0.1)
+contains_any-requires c = search ring_asks
 
 pub returns : goal.returns
-returns c = ring_reads _ _ _ c.extent_in-at.ensures c.contains_any.ensures
+returns c = ring_reads _ _ _ _ _ _ c.words.ensures c.contains_any.ensures

@@ -4,9 +4,10 @@ use Rattle.register.proofs.rings.strike.Goals as goal
 
 pub insert-requires : goal.insert-requires
 insert-requires c =
-    let l = c.ring_extent-at.ensures in
-    ((c.requires.0.0, ring_asks _ _ _ l c.args.part.now c.requires.0.1), room_in_ring _ _ _ l _ _ c.args.part.now _ c.requires.0.1 c.requires.1)
+    let l = rw c.of-rings.ensures at c.words.ensures in
+    let p = c.requires in
+    (ring_asks _ _ _ _ _ _ l c.args.part.now p.0, room_in_ring _ _ _ _ _ _ l _ _ c.args.part.now _ p.0 p.1)
 
 pub returns : goal.returns
 unfolding strike
-returns c = ring_turns _ _ _ c.ring_extent-at.ensures c.insert.ensures.1
+returns c = let l = rw c.of-rings.ensures at c.words.ensures in ring_turns _ _ _ _ _ _ l c.insert.ensures.ring_turns

@@ -21,6 +21,9 @@ returns-then-through-swept c =
 
 pub returns-then-swept-through : goal.returns-then-swept-through
 returns-then-swept-through c =
+    let rings = c.of-rings in
+    let turns = rw rings.ensures at c.sweep_rings.ensures in
+    let from = rw (rings.result.sizes.ring, rings.ensures) at c.sweep_from.ensures in
     let t = sweep_on c.args.u c.args.reading.0 c.args.part.now _ _ _ _ (c.is_pending.ensures.register_reads c.args.u) c.if-is_pending.false
-    c.through_of-through.ensures c.if-swept-through.true (rw (← c.rings_of-sizes.ensures.ring) c.sweep_from.ensures) c.sweep_rings.ensures in
+    c.through_of-through.ensures c.if-swept-through.true from turns in
     (swept_words c.args.u c.args.reading.0 _ _ t c.requires, t)

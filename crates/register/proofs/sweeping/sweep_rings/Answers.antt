@@ -1,7 +1,11 @@
-use Rattle.register.proofs.Sweeps.{rings_turns}
+use Rattle.register.proofs.Sweeps.{sweeping_start, sweeping_on, sweeping_end}
 use Rattle.register.proofs.sweeping.sweep_rings.Goals as goal
 
+pub loop-class-init : goal.loop-class-init
+loop-class-init c = sweeping_start _ _ _ _ c.requires
+
+pub loop-class-preserved : goal.loop-class-preserved
+loop-class-preserved c = search sweeping_on
+
 pub returns : goal.returns
-returns c =
-    rings_turns c.args.u c.args.buckets.from.0 c.args.buckets.through.0 _ _ _ _ _ c.sweep_class.ensures.1 c.sweep_class-2.ensures.1 c.sweep_class-3.ensures.1
-    c.set_swept.ensures.register_turns
+returns c = search sweeping_end

@@ -3,9 +3,13 @@ use Rattle.taking.proofs.InRun.{register_asks}
 use Rattle.restoring.proofs.on_register.fail.Goals as goal
 
 pub fail-requires : goal.fail-requires
-fail-requires c = register_asks c.args.on.now.s c.args.on.now.r c.args.on.now.at.below _ c.args.on.now.at c.args.run.now c.requires
+fail-requires c =
+    let on = c.args.on.now in
+    let w = c.words.ensures in
+    rw (w.start, w.end) (register_asks on.s on.r on.at.below _ on.at c.args.run.now c.requires)
 
 pub returns : goal.returns
 returns c =
-    let fail = c.fail in
-    fail_acts c.args.on.now.s c.args.on.now.r c.args.on.now.at.below _ c.args.on.now.at c.args.run.now _ c.requires c.args.h fail.ensures.1
+    let on = c.args.on.now in
+    let w = c.words.ensures in
+    rw (w.start, w.end) (fail_acts on.s on.r on.at.below _ on.at c.args.run.now _ c.requires c.args.h (rw (w.start, w.end) at c.fail.ensures.1))

@@ -3,4 +3,7 @@ use Rattle.restoring.proofs.on_register.raise_floor.Goals as goal
 
 pub returns : goal.returns
 returns c =
-    raise_acts c.args.on.now.s c.args.on.now.r c.args.on.now.at.below _ c.args.on.now.at c.args.run.now _ c.requires c.args.floor c.raise_by.ensures.register_turns
+    let on = c.args.on.now in
+    let w = c.words.ensures in
+    rw (w.start, w.end) (raise_acts on.s on.r on.at.below _ on.at c.args.run.now _ c.requires c.args.floor
+    (λ u. rw (w.start, w.end) at c.raise_by.ensures.register_turns u))

@@ -9,6 +9,6 @@ pub returns-else-head-buckets : goal.returns-else-head-buckets
 returns-else-head-buckets c =
     let e = c.if-head-buckets.either in
     elim c.if-head-ne0.branch [
-      | then-head-ne0 w ↦ let some = w.if-head-ne0.true in let is = w.t-13-is in search goes_not_passed
+      | then-head-ne0 w ↦ let some = w.if-head-ne0.true in let is = w.t-19-is in search goes_not_passed
       | else-head-ne0 w ↦ search goes_not_held
     ]

@@ -11,9 +11,9 @@ loop-b-init c = peek_start _ _ _ _ _
 pub loop-b-preserved : goal.loop-b-preserved
 loop-b-preserved c =
     let a = c.args in
-    let p = c.position-at.ensures in
+    let p = c.position_of-at.ensures.is in
     let one = c.newest_passed-more.ensures a.shape.slots a.shape.ring _ in
-    let t = bucket_reads _ _ _ p.below _ _ c.place-place.ensures.start c.place-place.ensures.end _ p.is one in
+    let t = bucket_reads _ _ _ p.below _ _ c.place.ensures.start c.place.ensures.end _ p.is one in
     peek_on _ _ _ _ _ _ _ c.loop-b.invariant (omega arith) _ t _ (c.max-went.ensures ∙ newest_is c.loop-b.went c.newest_passed-more.result)
 
 pub returns : goal.returns

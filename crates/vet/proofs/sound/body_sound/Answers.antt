@@ -9,23 +9,20 @@ use Rattle.vet.proofs.Tests.{first_not, first_on}
 use Rattle.vet.proofs.sound.body_sound.Goals as goal
 
 pub class_width-a-requires : goal.class_width-a-requires
-class_width-a-requires c = fit_shares c.args.s c.requires.0
+class_width-a-requires c = fit_shares c.args.vetted.now.s c.args.vetted.now.fit
 
-pub returns-then-not-book_sound : goal.returns-then-not-book_sound
-returns-then-not-book_sound c =
-    let class_width = c.class_width-a in
-    let t = c.args.s in
-    let w = class_width.ensures.0 in
-    let e : 3 * class_width.result ≡ (book_form t).wide = omega arith in
-    first_not (book_form t) (both (registers_form t) (free (unused_width t))) c.args.body.now _ e (omega arith) (sym c.if-not-book_sound.true ∙ c.book_sound.ensures)
+pub returns-else-book_sound : goal.returns-else-book_sound
+returns-else-book_sound c =
+    let t = c.args.vetted.now.s in
+    let w = c.class_width-a.ensures.0 in
+    let e : 3 * c.class_width-a.result ≡ (book_form t).wide = omega arith in
+    c.if-book_sound.false ∙ first_not (book_form t) (both (registers_form t) (free (unused_width t))) c.args.body.now _ e (omega arith)
+    (sym c.if-book_sound.false ∙ c.book_sound.ensures)
 
-pub returns : goal.returns
-returns c =
-    let class_width = c.class_width-a in
-    let book-sound = c.book_sound in
-    let if1 = c.if-not-book_sound in
-    let t = c.args.s in
-    let w = class_width.ensures.0 in
-    let e : 3 * class_width.result ≡ (book_form t).wide = omega arith in
-    first_on (book_form t) (both (registers_form t) (free (unused_width t))) c.args.body.now _ e (omega arith) (sym if1.false ∙ book-sound.ensures)
+pub returns-then-book_sound : goal.returns-then-book_sound
+returns-then-book_sound c =
+    let t = c.args.vetted.now.s in
+    let w = c.class_width-a.ensures.0 in
+    let e : 3 * c.class_width-a.result ≡ (book_form t).wide = omega arith in
+    first_on (book_form t) (both (registers_form t) (free (unused_width t))) c.args.body.now _ e (omega arith) (sym c.if-book_sound.true ∙ c.book_sound.ensures)
     _ c.registers_sound.ensures

@@ -2,20 +2,20 @@
 use Rattle.dump.proofs.Dumping.{part_none, lead_fits, prints_fit, part_puts}
 use Rattle.dump.proofs.write.DumpedShown.put_generation.Goals as goal
 
-pub returns-then-head-eq0 : goal.returns-then-head-eq0
-returns-then-head-eq0 g c =
-    part_none g.E.Element.encoded g.met.E.Element.encoded_long c.args.part.now _ c.of-head.ensures c.args.at _ c.if-head-eq0.true
+pub returns-then-head-eq0-clause-puts : goal.returns-then-head-eq0-clause-puts
+returns-then-head-eq0-clause-puts g c =
+    part_none g.E.Element.encoded g.met.E.Element.encoded_long c.args.part.now _ c.of-head.ensures _ _ c.if-head-eq0.true
 
-pub put_all-next-requires : goal.put_all-next-requires
-put_all-next-requires g c =
-    lead_fits g.E.Element.encoded g.met.E.Element.encoded_long c.args.part.now _ c.of-head.ensures c.args.at c.if-head-eq0.false c.requires.fits
+pub put_all-requires : goal.put_all-requires
+put_all-requires g c =
+    lead_fits g.E.Element.encoded g.met.E.Element.encoded_long c.args.part.now _ c.of-head.ensures _ c.if-head-eq0.false c.requires.fits
 
 pub put_prints-requires : goal.put_prints-requires
 put_prints-requires g c =
-    prints_fit g.E.Element.encoded g.met.E.Element.encoded_long c.args.part.now _ c.of-head.ensures c.args.at c.if-head-eq0.false c.requires.fits
-    c.put_all-next.ensures
+    prints_fit g.E.Element.encoded g.met.E.Element.encoded_long c.args.part.now _ c.of-head.ensures _ c.if-head-eq0.false c.requires.fits
+    c.put_all.ensures.puts
 
-pub returns : goal.returns
-returns g c =
-    part_puts g.E.Element.encoded g.met.E.Element.encoded_long c.args.part.now _ c.of-head.ensures c.args.at c.if-head-eq0.false c.requires.fits
-    c.put_all-next.ensures c.put_prints.ensures
+pub returns-clause-puts : goal.returns-clause-puts
+returns-clause-puts g c =
+    part_puts g.E.Element.encoded g.met.E.Element.encoded_long c.args.part.now _ c.of-head.ensures _ c.if-head-eq0.false c.requires.fits
+    c.put_all.ensures.puts c.put_prints.ensures.puts
