@@ -31,27 +31,26 @@ FAULTS = {
         ("register/src/rings.rt", "heading::raise_by(part, went);", ""),
     ],
     # A party within its equal part is turned away once the class has its limit.
-    "equal-part-ignored": [(DECIDE, "if t / holders < own {", "if 0 < holders {")],
+    "equal-part-ignored": [(DECIDE, "if t / after.holders < own {", "if 0 < after.holders {")],
     # Parties past their equal part are let in up to twice the limit.
-    "equal-part-untested": [(DECIDE, "if t / holders < own {", "if t < own {")],
+    "equal-part-untested": [(DECIDE, "if t / after.holders < own {", "if t < own {")],
     # Drawn before room is looked for, and not given back where there is none.
     "share-not-given-back": [
-        ("taking/src/lib.rt", "    shares::enter(run, on.s, ticket, spot);\n    on_register::strike", "    on_register::strike"),
+        ("taking/src/lib.rt", "    shares::enter(run, on, ticket, spot);\n    on_register::strike", "    on_register::strike"),
         ("taking/src/lib.rt", "    let room = on_register::room(run, on, ticket);",
-         "    shares::enter(run, on.s, ticket, spot);\n    let room = on_register::room(run, on, ticket);"),
+         "    shares::enter(run, on, ticket, spot);\n    let room = on_register::room(run, on, ticket);"),
     ],
     "growth-forgets-one": [
         ("generation/src/slots.rt", "for word in old {", "for word in old.iter().skip(1) {"),
     ],
     # Room is looked for as if a held fingerprint wanted a slot of its own.
     "held-asks-for-room": [
-        (GENERATION, "    let wanted = slots_for(known, part[Generation::SLOTS], part[Generation::HELD]);\n    if wanted",
-         "    let wanted = slots_for(false, part[Generation::SLOTS], part[Generation::HELD]);\n    if wanted"),
+        (GENERATION, "    let wanted = head.slots_for(known);\n    if wanted",
+         "    let wanted = head.slots_for(false);\n    if wanted"),
     ],
     # A held fingerprint that is inserted again doubles the slots.
     "held-doubles-slots": [
-        (GENERATION, "    let wanted = slots_for(known, part[Generation::SLOTS], part[Generation::HELD]);\n    regrow",
-         "    let wanted = slots_for(false, part[Generation::SLOTS], part[Generation::HELD]);\n    regrow"),
+        (GENERATION, "    let wanted = head.slots_for(known);\n    regrow", "    let wanted = head.slots_for(false);\n    regrow"),
     ],
     "restore-keeps-its-draws": [
         ("restoring/src/holding.rt", "give_back_all(run, on, h, draws);", "give_back_all(run, on, h, 0 * draws);"),
@@ -62,50 +61,58 @@ FAULTS = {
         ("expiring/src/lib.rt", "let least = least::least_published(run, s, reading);", "let least = reading;"),
     ],
     "second-rounded-down": [
-        ("numbers/src/spans.rt", "ceil_div(bucket.0.saturating_mul(width), 1000).min(TOP32)",
-         "(bucket.0.saturating_mul(width) / 1000).min(TOP32)"),
+        ("numbers/src/spans.rt", "Second::from(Judged(bucket.0.saturating_mul(width)))",
+         "Second((bucket.0.saturating_mul(width) / 1000).min(Second::LAST))"),
     ],
-    "newest-not-kept": [(GENERATION, "newest: head.newest.max(stamp),", "newest: stamp,")],
+    "newest-not-kept": [(GENERATION, "newest: head.newest.max(entry.stamp),", "newest: entry.stamp,")],
     # An oldest stamp of 0 is taken for none.
     "oldest-zero-is-none": [
-        (GENERATION, "    if head.held == 0 {\n        stamp\n", "    if head.oldest == 0 {\n        stamp\n"),
+        (GENERATION, "    if head.held == 0 {\n        return stamp;", "    if head.oldest == 0 {\n        return stamp;"),
     ],
-    "oldest-not-kept": [(GENERATION, "        head.oldest.min(stamp)\n", "        stamp\n")],
+    "oldest-not-kept": [(GENERATION, "    head.oldest.min(stamp)\n", "    stamp\n")],
     "position-clash-overwritten": [
-        (GENERATION, "(part[Generation::HELD] != 0) {", "(part[Generation::HELD] == 18446744073709551615) {"),
+        (GENERATION, "(head.held != 0) {", "(head.held == 18446744073709551615) {"),
         (GENERATION, "    grow(part, known);\n    enter(",
-         "    if part[Generation::BUCKET] != bucket.0 {\n        drop_all(part);\n    }\n    grow(part, known);\n    enter("),
+         "    if part[Generation::BUCKET] != entry.bucket.0 {\n        drop_all(part);\n    }\n    grow(part, known);\n    enter("),
     ],
     # A number of a dump is read with two of its bytes exchanged.
     "bytes-exchanged": [
-        ("dump/src/octets.rt", "u64::from_le_bytes(*word)",
-         "let [a, b, c, d, e, f, g, h]: [u8; 8] = *word;\n    u64::from_le_bytes([a, b, c, e, d, f, g, h])"),
+        ("dump/src/octets.rt", "        bytes[at + 3],\n        bytes[at + 4],\n",
+         "        bytes[at + 4],\n        bytes[at + 3],\n"),
     ],
     "ahead-for-late": [
-        ("register/src/judging.rt", "if past {", "if past | true {"),
+        ("register/src/judging.rt", "if past && verdict == Verdict::Late {", "if (past | true) && verdict == Verdict::Late {"),
     ],
-    "twice-the-limit-and-one": [(DECIDE, "if 2 * t < units {", "if 2 * t + 1 < units {")],
-    "twice-the-limit-less-one": [(DECIDE, "if 2 * t < units {", "if 2 * t <= units {")],
-    "one-pair-too-many": [(DECIDE, "pairs <= used", "pairs < used")],
-    "one-pair-too-few": [(DECIDE, "pairs <= used", "pairs <= used + 1")],
+    "twice-the-limit-and-one": [(DECIDE, "if 2 * t < after.units {", "if 2 * t + 1 < after.units {")],
+    "twice-the-limit-less-one": [(DECIDE, "if 2 * t < after.units {", "if 2 * t <= after.units {")],
+    "one-pair-too-many": [(DECIDE, "shares.pairs <= seen.pairs", "shares.pairs < seen.pairs")],
+    "one-pair-too-few": [(DECIDE, "shares.pairs <= seen.pairs", "shares.pairs <= seen.pairs + 1")],
     # A ticket is explained by the floor of now, and not by the one that its sweep would leave.
     "explain-floor-before-sweep": [(SEEN, "Seen { floor, ..seen }", "Seen { floor: seen.floor, ..seen }")],
     # What lies before the sweep's end counts as gone, visited or not.
     "explain-gone-unvisited": [
-        ("ring/src/peeking.rt", "(buckets.through.0 - 1 - head.bucket) % (shape.ring as u64)\n            < buckets.through.0 - buckets.from.0",
+        ("ring/src/peeking.rt",
+         "(buckets.through.0 - 1 - head.bucket) % (position.shape.ring as u64)\n            < buckets.through.0 - buckets.from.0",
          "true"),
     ],
     "explain-own-before-feeders": [
-        (SEEN, "    for class in [Class::Feeders, Class::Peers, Class::Own] {\n        if holds_after",
-         "    for class in [Class::Own, Class::Feeders, Class::Peers] {\n        if holds_after"),
+        (SEEN, "Class::ALL.iter().copied().find(|class| holds_after",
+         "[Class::Own, Class::Feeders, Class::Peers].iter().copied().find(|class| holds_after"),
     ],
     # The verdict stays, and so the rule alone tells.
     "explain-class-limit-for-feeders": [
-        (DECIDE, "    if t / holders < own {\n        return Draw::EqualPart;", "    if t / holders < own {\n        return Draw::ClassLimit;"),
+        (DECIDE, "    if t / after.holders < own {\n        return Draw::EqualPart;",
+         "    if t / after.holders < own {\n        return Draw::ClassLimit;"),
     ],
-    "explain-slots-for-position": [("taking/src/explaining.rt", "Room::Collides => Reason::Position,", "Room::Collides => Reason::Slots,")],
+    "explain-slots-for-position": [
+        ("taking/src/explaining.rt", "            Reason::from(room)\n",
+         "            match room {\n                model::Room::Collides => Reason::Slots,\n                _ => Reason::from(room),\n            }\n"),
+    ],
     # Judge's verdict for take's.
-    "explain-judges-alone": [("taking/src/explaining.rt", "Reason::Accepted => explain_share(run, on, seen, tickets::ticket_of(on.extent.u, ask)),", "Reason::Accepted => Reason::Accepted,")],
+    "explain-judges-alone": [
+        ("taking/src/explaining.rt", "Reason::Accepted => explain_share(run, on, seen, Ticket::of(on.extent.u, ask)),",
+         "Reason::Accepted => Reason::Accepted,"),
+    ],
     # A stamp that is not tried: each kind of them.
     "stamp-0-untried": [(TRIES, "&[0, start, past]", "&[start, past]")],
     "stamp-window-start-untried": [(TRIES, "&[0, start, past]", "&[0, past]")],
@@ -140,7 +147,7 @@ def tried():
     """Whether the compiled program ends and writes what is expected, and the first line in which it does not."""
     crate = COPY / "crates" / "replay"
     with open(crate / "stdin") as lists:
-        run = subprocess.run(["rt", "try", "--steps", "1"], cwd=crate, stdin=lists, capture_output=True, text=True)
+        run = subprocess.run(["rt", "try", "--steps", "1", "--seconds", "900"], cwd=crate, stdin=lists, capture_output=True, text=True)
     said = run.stderr.splitlines()
     if not any(line.startswith(("checked: ended", "checked: fault")) for line in said):
         sys.exit("faults.py: rt try did not run the program: " + run.stderr[:2000])

@@ -20,17 +20,30 @@ abbrev pub units_in : Option ℕ → ℕ
 units_in None = 0
 units_in (Some place) = place
 
+-- one entry more or less, with so many places, and the units of these
+abbrev pub taken_with : Totals → ℕ → ℕ → Totals
+taken_with t first place = record { entries = t.entries + 1; holders = t.holders + first; units = t.units + 1 + place; expired = t.expired }
+
+abbrev pub untaken_with : Totals → ℕ → ℕ → Totals
+untaken_with t gone place = record { entries = t.entries - 1; holders = t.holders - gone; units = t.units - 1 - place; expired = t.expired }
+
 abbrev pub taken : Totals → Option ℕ → Totals
-taken t opened = record { entries = t.entries + 1; holders = t.holders + places_in opened; units = t.units + 1 + units_in opened; expired = t.expired }
+taken t opened = taken_with t (places_in opened) (units_in opened)
 
 abbrev pub untaken : Totals → Option ℕ → Totals
-untaken t closed = record { entries = t.entries - 1; holders = t.holders - places_in closed; units = t.units - 1 - units_in closed; expired = t.expired }
+untaken t closed = untaken_with t (places_in closed) (units_in closed)
 
 abbrev pub expired_to : Totals → Sums → ℕ → Totals
 expired_to t gone through =
     record { entries = t.entries - gone.entries; holders = t.holders - gone.holders; units = t.units - gone.units; expired = through }
 
 -- so that no sum is too large and nothing is taken off that is not there
+abbrev pub CanTakeWith : Totals → ℕ → ℕ → Type 0
+CanTakeWith t first place = (t.entries ≤ 4_000_000) × (t.holders ≤ 64) × (t.units ≤ 4_000_000) × (first ≤ 1) × (place ≤ 4_096)
+
+abbrev pub CanUntakeWith : Totals → ℕ → ℕ → Type 0
+CanUntakeWith t gone place = (1 ≤ t.entries) × (gone ≤ t.holders) × (1 + place ≤ t.units)
+
 abbrev pub CanTake : Totals → Option ℕ → Type 0
 CanTake t opened = (t.entries ≤ 4_000_000) × (t.holders ≤ 64) × (t.units ≤ 4_000_000) × (units_in opened ≤ 4_096)
 

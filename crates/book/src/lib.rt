@@ -3,7 +3,7 @@
 // fact in contracts and no type: draws and returns change the words, so a type would have to say it before and after each of them.
 #![tactic(auto)]
 
-mod decide;
+pub mod decide;
 pub mod front;
 pub mod place;
 pub mod totals;

@@ -1,7 +1,7 @@
 // A class's totals: the first words of the class's part. A draw, a return and an expiry alter them by `take`, `untake` and `expire`,
 // to which they are lent: a rule of the project names this form.
 ghost use Rattle.std.specs.Prelude.{◌≡◌, ◌≤◌, ◌∷◌, length, drop};
-ghost use Rattle.book.specs.Sums.{totals_in, taken, untaken, expired_to, CanTake, CanUntake, CanExpire};
+ghost use Rattle.book.specs.Sums.{totals_in, taken, taken_with, untaken, untaken_with, expired_to, CanTake, CanTakeWith, CanUntake, CanUntakeWith, CanExpire};
 ghost use Rattle.model.specs.Widths.{class_head};
 
 use numbers::layout;
@@ -41,29 +41,46 @@ impl Totals {
         part[layout::CLASS_EXPIRED] = self.expired;
     }
 
-    // A draw's entry is added, and its deliverer's place where that opens: `opened` has the place's units.
+    // A draw's entry is added, with so many places that open, one at most, and their units.
+    pub fn take_with(&mut self, first: u64, place: u64)
+        requires { CanTakeWith self.old first place }
+        ensures { self.new ≡ taken_with self.old first place }
+    {
+        self.entries += 1;
+        self.holders += first;
+        self.units += 1 + place;
+    }
+
+    // The same, and its deliverer's place where that opens: `opened` has the place's units.
     pub fn take(&mut self, opened: Option<u64>)
         requires { CanTake self.old opened }
         ensures { self.new ≡ taken self.old opened }
     {
-        self.entries += 1;
-        self.units += 1;
-        if let Some(place) = opened {
-            self.holders += 1;
-            self.units += place;
+        match opened {
+            Some(place) => self.take_with(1, place),
+            None => self.take_with(0, 0),
         }
     }
 
-    // An entry that is given back is taken off, and its deliverer's place where that closes: `closed` has the place's units.
+    // An entry that is given back is taken off, with so many places that close, and their units.
+    pub fn untake_with(&mut self, gone: u64, place: u64)
+        requires { CanUntakeWith self.old gone place }
+        ensures { self.new ≡ untaken_with self.old gone place }
+    {
+        self.entries -= 1;
+        self.holders -= gone;
+        self.units -= 1;
+        self.units -= place;
+    }
+
+    // The same, and its deliverer's place where that closes: `closed` has the place's units.
     pub fn untake(&mut self, closed: Option<u64>)
         requires { CanUntake self.old closed }
         ensures { self.new ≡ untaken self.old closed }
     {
-        self.entries -= 1;
-        self.units -= 1;
-        if let Some(place) = closed {
-            self.holders -= 1;
-            self.units -= place;
+        match closed {
+            Some(place) => self.untake_with(1, place),
+            None => self.untake_with(0, 0),
         }
     }
 

@@ -1,23 +1,22 @@
 // Deliverers of a class are distinct.
-ghost use Rattle.std.specs.Prelude.{◌≡◌, ◌≤◌, length, get_or};
-ghost use Rattle.model.specs.Widths.{place_head};
+ghost use Rattle.std.specs.Prelude.{◌≡◌};
 ghost use Rattle.model.specs.BookWords.{read_who, has_place, distinct as distinct_rule};
 ghost use Rattle.book_sound.specs.PlaceAt.{Few, places_in};
 
 use crate::place;
-use model::{Class, Shares};
-use numbers::starts;
+use model::{Class, DelivererCode, Shares};
+use numbers::{layout, starts};
 
-// Whether one of the used places has the deliverer of that place.
-fn has_who(places: &[u64], shares: Shares, class: Class, place: &[u64]) -> bool
-    requires { Few shares × (place_head ≤ length place.now) }
-    ensures { result ≡ has_place (read_who class (get_or place.now 0 0) (get_or place.now 1 0)) (places_in shares class places.now) }
+// Whether one of the used places has that deliverer, a code as it lies in the words.
+fn has_who(places: &[u64], shares: Shares, class: Class, code: DelivererCode) -> bool
+    requires { Few shares }
+    ensures { result ≡ has_place (read_who class code.kind code.number) (places_in shares class places.now) }
 {
     for other in places.chunks_exact(starts::place_width(shares)) {
         if !place::in_use(other) {
             return false;
         }
-        if place::same_who(class, place, other) {
+        if place::same_who(class, code, other) {
             return true;
         }
     }
@@ -37,7 +36,11 @@ pub fn distinct(body: &[u64], shares: Shares, class: Class) -> bool
         if !place::in_use(place) {
             return true;
         }
-        if has_who(later, shares, class, place) {
+        let code = DelivererCode {
+            kind: place[layout::PLACE_KIND],
+            number: place[layout::PLACE_NUMBER],
+        };
+        if has_who(later, shares, class, code) {
             return false;
         }
     }

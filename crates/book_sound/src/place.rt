@@ -41,19 +41,19 @@ pub fn in_use(place: &[u64]) -> bool
     place[layout::PLACE_PAIRS] != 0
 }
 
-// Whether two places of a class have one deliverer. A restored one has no number, nor has the class Own: so no derived `==` is it.
+// Whether a place of a class has the deliverer of that code, which is read once for all places. A restored one has no number, nor has the
+// class Own: so no derived `==` is it.
 #[tactic(auto, using(crate::proofs::Whose::who_restored, crate::proofs::Whose::who_other, crate::proofs::Whose::who_numbered, crate::proofs::Whose::who_own))]
-pub fn same_who(class: Class, place: &[u64], other: &[u64]) -> bool
-    requires { (place_head ≤ length place.now) × (place_head ≤ length other.now) }
-    ensures { result ≡ same_deliverer (read_who class (get_or place.now 0 0) (get_or place.now 1 0)) (read_who class (get_or other.now 0 0) (get_or other.now 1 0)) }
+pub fn same_who(class: Class, code: DelivererCode, other: &[u64]) -> bool
+    requires { place_head ≤ length other.now }
+    ensures { result ≡ same_deliverer (read_who class code.kind code.number) (read_who class (get_or other.now 0 0) (get_or other.now 1 0)) }
 {
-    let kind = place[layout::PLACE_KIND];
     let other_kind = other[layout::PLACE_KIND];
-    if kind == DelivererCode::RESTORED || other_kind == DelivererCode::RESTORED {
-        return kind == other_kind;
+    if code.kind == DelivererCode::RESTORED || other_kind == DelivererCode::RESTORED {
+        return code.kind == other_kind;
     }
     match class {
-        Class::Feeders | Class::Peers => place[layout::PLACE_NUMBER] == other[layout::PLACE_NUMBER],
+        Class::Feeders | Class::Peers => code.number == other[layout::PLACE_NUMBER],
         Class::Own => true,
     }
 }

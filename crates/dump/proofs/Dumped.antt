@@ -58,7 +58,7 @@ module _ (S n : ℕ) where
   behind g us = drop_at (encode_generation S g) us (generation_width S) (generation_wide S g)
 
   -- what each part comes to is what each held generation comes to, in dump sequence
-  parts_are : (f : List ℕ → List ℕ) (words : Generation → List ℕ)
+  pub parts_are : (f : List ℕ → List ℕ) (words : Generation → List ℕ)
       → ((g : Generation) → length g.slots ≤ S → f (encode_generation S g) ≡ if_held g (words g))
       → (i : ℕ) (gs : List Generation) → EachOk (GenerationOk S n) i gs
       → parts f (generation_width S) (length gs) (flat (encode_generation S) gs) ≡ flat words (held_list gs)

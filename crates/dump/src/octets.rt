@@ -3,13 +3,21 @@ ghost use Rattle.std.specs.Prelude.{◌≡◌, ◌+◌, ◌≤◌, length, take,
 ghost use Rattle.model.specs.Dump.{number_of, word_bytes};
 ghost use Rattle.runs.specs.Over.{written};
 
-// The number that lies at a byte position.
+// The number that lies at a byte position. Each byte is named, since it is known to be there; a part of eight would be tested for its length.
 pub fn word_at(bytes: &[u8], at: usize) -> u64
     requires { at + 8 ≤ length bytes.now }
     ensures { result ≡ number_of (take 8 (drop at bytes.now)) }
 {
-    let word = bytes[at..].first_chunk().unwrap();
-    u64::from_le_bytes(*word)
+    u64::from_le_bytes([
+        bytes[at],
+        bytes[at + 1],
+        bytes[at + 2],
+        bytes[at + 3],
+        bytes[at + 4],
+        bytes[at + 5],
+        bytes[at + 6],
+        bytes[at + 7],
+    ])
 }
 
 // Writes a number at a byte position.

@@ -62,11 +62,13 @@ impl<'a> Reader<'a> {
         if self.left() < 3 {
             return None;
         }
-        let found = self.generation();
-        if (self.left() as u64) < found.length {
+        // Its bucket and its newest stamp are not read yet.
+        self.skip(2);
+        let length = self.word();
+        if (self.left() as u64) < length {
             return None;
         }
-        self.skip(found.length);
+        self.skip(length);
         Some(())
     }
 

@@ -67,11 +67,6 @@ module _ (ws : List ℕ) where
     says = λ g ok is. (t S n i).says g ok is ∙ rw (eq-eqb g.bucket b (sym (ap (λ (l : List ℕ). get_or l 3 0) is) ∙ h));
   }
 
-  pub room_collides : (fp b at : ℕ) → (not (eqb (get_or ws 3 0) b) && not (eqb (get_or ws 1 0) 0)) ≡ true
-      → GenerationReads (room_for fp b at) ws Collides
-  unfolding collides
-  room_collides fp b at t S n i = record { says = λ g ok is. let e = rw is at t in rw e }
-
   pub room_is : (fp b at : ℕ) (known : Bool) (r : Room) → GenerationReads (λ S g. among fp g.slots) ws known
       → GenerationReads (room_in known b at) ws r → GenerationReads (room_for fp b at) ws r
   room_is fp b at known r k t S n i = record {
@@ -79,6 +74,10 @@ module _ (ws : List ℕ) where
   }
 
   module _ (known : Bool) (b at : ℕ) where
+    pub room_collides : (not (eqb (get_or ws 3 0) b) && not (eqb (get_or ws 1 0) 0)) ≡ true → GenerationReads (room_in known b at) ws Collides
+    unfolding collides
+    room_collides t S n i = record { says = λ g ok is. let e = rw is at t in rw e }
+
     module _ (t : (not (eqb (get_or ws 3 0) b) && not (eqb (get_or ws 1 0) 0)) ≡ false) (wanted : ℕ)
         (w : wanted ≡ slots_after known (get_or ws 0 0) (get_or ws 1 0)) where
       room_said : (S : ℕ) (g : Generation) → ws ≡ encode_generation S g

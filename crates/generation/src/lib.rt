@@ -7,7 +7,7 @@ ghost use Rattle.std.specs.Prelude.{◌≡◌, cond, ◌≤◌, ◌<◌, min, le
 ghost use Rattle.runs.specs.Turns.{silent};
 ghost use Rattle.model.specs.Widths.{generation_head, generation_width};
 ghost use Rattle.model.specs.Generation.{among, insert, dropped};
-ghost use Rattle.generation.specs.Rules.{holds_in, room_for, with_slots_for, entered, drop_says, dropped_in, drop_in_says, swept_at, sweep_says};
+ghost use Rattle.generation.specs.Rules.{holds_in, room_in, room_for, with_slots_for, entered, drop_says, dropped_in, drop_in_says, swept_at, sweep_says};
 ghost use Rattle.generation.specs.Words.{Bounded, Roomy, RoomyFor, Leads, led_by, opened, GenerationReads, GenerationTurns, FittingTurns};
 
 use crate::slots::{put, regrow};
@@ -125,21 +125,30 @@ pub fn contains_in(part: &[u64], bucket: Bucket, fp: Fingerprint) -> bool
 }
 
 // The room for one more fingerprint of a bucket in the generation at position `at`: that position, or what stands against it.
-pub fn room(part: &[u64], at: usize, bucket: Bucket, fp: Fingerprint) -> Room
+// `known`: the fingerprint is held already.
+pub fn room_known(part: &[u64], at: usize, bucket: Bucket, known: bool) -> Room
     requires { Bounded part.now }
-    ensures { GenerationReads (room_for fp.word bucket.0 at) part.now result }
+    ensures { GenerationReads (room_in known bucket.0 at) part.now result }
 {
     let most = (part.len() - Generation::HEAD) as u64;
     let head = Generation::of(part);
     if (head.bucket != bucket.0) & (head.held != 0) {
         return Room::Collides;
     }
-    let wanted = head.slots_for(contains(part, fp));
+    let wanted = head.slots_for(known);
     if wanted <= most {
         Room::At(at)
     } else {
         Room::Full
     }
+}
+
+// The same for a fingerprint, which is looked up.
+pub fn room(part: &[u64], at: usize, bucket: Bucket, fp: Fingerprint) -> Room
+    requires { Bounded part.now }
+    ensures { GenerationReads (room_for fp.word bucket.0 at) part.now result }
+{
+    room_known(part, at, bucket, contains(part, fp))
 }
 
 // A generation's slots grow as one more fingerprint asks. `known`: it is held already.
@@ -184,14 +193,22 @@ fn enter(part: &mut [u64], entry: Entry)
     next.lead(part);
 }
 
-// Inserts an entry. There must be room for it.
+// Inserts an entry. `known` says whether its fingerprint is held already, and there must be room for it.
+pub fn insert_known(part: &mut [u64], known: bool, entry: Entry)
+    requires { GenerationReads (λ S g. among entry.fp.word g.slots) part.old known × (Bounded part.old × Roomy known part.old) }
+    ensures { GenerationTurns (insert entry.bucket.0 entry.fp.word entry.stamp) silent part.old part.new (tt {0}) }
+{
+    grow(part, known);
+    enter(part, entry);
+}
+
+// The same, and the fingerprint is looked up.
 pub fn insert(part: &mut [u64], entry: Entry)
     requires { Bounded part.old × RoomyFor entry.fp.word part.old }
     ensures { GenerationTurns (insert entry.bucket.0 entry.fp.word entry.stamp) silent part.old part.new (tt {0}) }
 {
     let known = contains(part, entry.fp);
-    grow(part, known);
-    enter(part, entry);
+    insert_known(part, known, entry);
 }
 
 // A generation is dropped: it holds nothing, and its bucket word stays. Answers the newest stamp that went, if any did.

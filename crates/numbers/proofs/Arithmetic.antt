@@ -41,7 +41,7 @@ module _ (n d : ℕ) (h : (d ≡ 0) → ⊥) where
   d_positive : 0 < d
   d_positive = by_test (leb 1 d) (λ t. leb-true 1 d t) (λ t. absurd (h (let k = leb-false 1 d t in omega arith)))
 
-  ceil_even : n % d ≡ 0 → n / d ≡ ceil n d
+  pub ceil_even : n % d ≡ 0 → n / d ≡ ceil n d
   unfolding ceil
   ceil_even e =
       let p = d_positive in
@@ -49,7 +49,7 @@ module _ (n d : ℕ) (h : (d ≡ 0) → ⊥) where
       let z : (d - 1) / d ≡ 0 = div-eq_of_lt (omega arith) in
       sym (ap (λ (m : ℕ). m / d) k ∙ mul-add-div_right p (n / d) (d - 1) ∙ rw z (omega arith))
 
-  ceil_odd : (n % d ≡ 0 → ⊥) → n / d + 1 ≡ ceil n d
+  pub ceil_odd : (n % d ≡ 0 → ⊥) → n / d + 1 ≡ ceil n d
   unfolding ceil
   ceil_odd e =
       let p = d_positive in

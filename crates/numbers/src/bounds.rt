@@ -1,6 +1,6 @@
 // Settings and limits: read from the words that a host hands in, tested against their bounds, and the words that they need.
 ghost use Rattle.std.specs.List.{list_all};
-ghost use Rattle.std.specs.Prelude.{◌≡◌, true, ◌<◌, ◌≤◌, length};
+ghost use Rattle.std.specs.Prelude.{◌≡◌, true, cond, ◌<◌, ◌≤◌, length};
 ghost use Rattle.model.specs.Settings.{usable_below as usable_read, settings_of as settings_in, limits_of as limits_in, power_of_two, window_fit as window_within, usable_fit as usable_within, shares_fit as shares_within, limits_fit as limits_within, settings_fit as settings_within, register_words, book_words as places_words, words_needed as needed};
 ghost use Rattle.model.specs.Most.{rings_most, book_most};
 ghost use Rattle.numbers.specs.Readers.{usable_said, shares_said};
@@ -173,7 +173,7 @@ fn book_words(b: Shares) -> u64
     3 * b.places * starts::place_width(b) as u64
 }
 
-// The words that settings in bounds need.
+// The words that settings in bounds need, for whoever has tested them.
 #[tactic(auto, using(crate::proofs::Needed::few_registers, crate::proofs::Needed::rings_none, model::proofs::Bounds::fit_shares))]
 pub fn words_in_bounds(s: Settings) -> u64
     requires { settings_within s ≡ true }
@@ -184,4 +184,14 @@ pub fn words_in_bounds(s: Settings) -> u64
         rings += register_words(*u);
     }
     rings + book_words(s.shares) + 128
+}
+
+// The words that any settings need: 0 where they are out of bounds, since no words serve those.
+pub fn words_needed(s: Settings) -> u64
+    ensures { result ≡ cond (settings_within s) (needed s) 0 }
+{
+    if !settings_fit(s) {
+        return 0;
+    }
+    words_in_bounds(s)
 }

@@ -78,7 +78,9 @@ pub fn room(part: &[u64], u: Usable, class: Class, bucket: Bucket, fp: Fingerpri
     )
 }
 
-// Inserts an entry into a class's ring, at the position where room was found for it.
+// Inserts an entry into a class's ring, at the position where room was found for it. It is inlined, since a restore calls it for each
+// fingerprint.
+#[inline(always)]
 pub fn strike(part: &mut [u64], u: Usable, class: Class, position: usize, entry: Entry)
     requires { RegisterWords u part.old × RegisterReads u (λ reg. make_room u.slots entry.bucket.0 entry.fp.word (pick class reg.rings)) part.old (found_at position) }
     ensures { RegisterTurns u (struck class entry.bucket.0 entry.fp.word entry.stamp) silent part.old part.new (tt {0}) }

@@ -46,9 +46,13 @@ pub fn restore_class(
     ensures same_bytes { reader.new.bytes ≡ reader.old.bytes }
     ensures next { reader.new.at ≡ class_end (words_of reader.old.bytes.now) reader.old.at }
 {
+    // Copies that nothing else can alter: what they say need not be read and stored again for each fingerprint.
+    let on = *on;
+    let mut here = *reader;
     let mut whole = before;
-    for _generation in 0..reader.word() {
-        whole = restore_at(run, on, class, reader) & whole;
+    for _generation in 0..here.word() {
+        whole = restore_at(run, &on, class, &mut here) & whole;
     }
+    *reader = here;
     whole
 }

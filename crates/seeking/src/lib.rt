@@ -15,7 +15,9 @@ pub use quest::Quest;
 use register::Ask;
 use taking::OneRegister;
 
-// The smallest stamp with which a ticket would get the wanted verdict. The stamp that the ticket brings is not read.
+// The smallest stamp with which a ticket would get the wanted verdict. The stamp that the ticket brings is not read. It is never inlined:
+// its quest would lie on the stack while the words are tested.
+#[inline(never)]
 pub fn stamp_for(run: &[u64], on: OneRegister, ask: Ask, wanted: Verdict) -> Option<u64>
     requires { RunWords on.s run.now }
     ensures { StateReads on.s (sought_by on.s on.r (asked_by ask) wanted) run.now result }

@@ -45,7 +45,7 @@ use Rattle.strikes.proofs.OnClass.{class_of_words, deliverer_at, seen_class}
 
 -- ---- 6 and 5 as the code tries them
 -- what is said of a pending flag and a length that were read is said of the register
-refusal_reads : (u : Usable) {ws : List ℕ} (room : ℕ) {n v : ℕ} {b : Bool} → ((x : Usable) → RegisterReads x (λ reg. reg.pending) ws b)
+pub refusal_reads : (u : Usable) {ws : List ℕ} (room : ℕ) {n v : ℕ} {b : Bool} → ((x : Usable) → RegisterReads x (λ reg. reg.pending) ws b)
     → RegisterReads u (λ reg. length (dump_bytes reg)) ws n → v ≡ six_then_five b (ltb room n) → DumpTried u room ws v
 unfolding dump_refusal
 refusal_reads u room pending long e = record { reads = record { says = λ reg ok is. e ∙ rw ((pending u).says reg ok is, long.says reg ok is) } }

@@ -24,8 +24,7 @@ use Rattle.dump.specs.Walk.{dump_at, Whole}
 use Rattle.restoring.specs.Rules.{restored_whole, resumed_whole}
 use Rattle.taking.specs.declared.one_register.OneRegister.{OneRegister}
 use Rattle.taking.specs.Words.{StateTurns}
-use Rattle.strikes.specs.declared.Restored.{Restored}
-use Rattle.strikes.specs.Calls.{Told, heard, restore_answer, restored_heard}
+use Rattle.strikes.specs.Calls.{Told, heard, restore_answer}
 use Rattle.strikes.specs.Entries.{ByRegister}
 use Rattle.strikes.proofs.Through.{told_exit}
 use Rattle.strikes.proofs.Admitting.{first_own}
@@ -84,11 +83,11 @@ module _ (bs : List ℕ) (l : Option Dump) {d : Dump} (read : MatchOption l (rea
   unfolding first_own first_met is_cut
   not_cut deed own r t = ap first_own (own (register_at r t)) ∙ rw dump_there.reads
 
-  module _ {st ws : List ℕ} {r : ℕ} {on : OneRegister} (by : ByRegister st ws r on) {last : List ℕ} {b : Bool} (a : Restored)
-      (told : restored_heard a ≡ restore_answer (8 * d.words) b) where
+  module _ {st ws : List ℕ} {r : ℕ} {on : OneRegister} (by : ByRegister st ws r on) {last : List ℕ} {b : Bool} (a : Answer)
+      (told : a ≡ restore_answer (8 * d.words) b) where
     pub was_restored : StateTurns on.s (λ t. (restored on.s on.r t (Some (dump_at (words_of d.bytes.now)))).state)
         (restored_whole on.s on.r (dump_at (words_of d.bytes.now))) (run_of on.need ws) last b
-        → Told st ws (On r (Restore bs)) (restored_heard a) (put_run on.need ws last)
+        → Told st ws (On r (Restore bs)) a (put_run on.need ws last)
     unfolding deed_fits deed_refusals done_on restored after_restored
     was_restored turn =
         let w = dump_there in
@@ -99,7 +98,7 @@ module _ (bs : List ℕ) (l : Option Dump) {d : Dump} (read : MatchOption l (rea
         → proven ≡ then_some p floor
         → StateTurns on.s (λ t. (resumed on.s on.r t proven (Some (dump_at (words_of d.bytes.now)))).state)
         (resumed_whole on.s on.r (dump_at (words_of d.bytes.now)) proven) (run_of on.need ws) last b
-        → Told st ws (On r (Resume bs flag floor)) (restored_heard a) (put_run on.need ws last)
+        → Told st ws (On r (Resume bs flag floor)) a (put_run on.need ws last)
     unfolding deed_fits deed_refusals done_on resumed after_restored
     was_resumed {p} {flag} {floor} {proven} flagged is turn =
         let w = dump_there in

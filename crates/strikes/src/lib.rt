@@ -353,16 +353,16 @@ pub fn view_deliverer(
     Ok(book_view::view(out, part, at.shares, who))
 }
 
-// What a restore of a dump says: how many bytes it read, and whether all is held.
+// What a restore of a dump returns: how many bytes it read, and whether all is held. It refuses nothing, since words are written by then.
 #[tactic(auto, using(dump::proofs::Walks::within_bytes))]
-fn told_restored(whole: bool, dump: &Dump) -> Restored
-    ensures { restored_heard result ≡ restore_answer (8 * dump.now.words) whole }
+fn told_restored(whole: bool, dump: &Dump) -> Result<Restored, Refusal>
+    ensures { heard restored_heard result ≡ restore_answer (8 * dump.now.words) whole }
 {
     let read = 8 * (dump.words as u64);
     if whole {
-        Restored::Whole(read)
+        Ok(Restored::Whole(read))
     } else {
-        Restored::Partly(read)
+        Ok(Restored::Partly(read))
     }
 }
 
@@ -378,7 +378,7 @@ pub fn restore(
     let on = admit(settings, words, register)?;
     let dump = dump::read_lengths(bytes).ok_or(Refusal::CutShort)?;
     let whole = restoring::restore(&mut words[0..on.need], &on, &dump);
-    Ok(told_restored(whole, &dump))
+    told_restored(whole, &dump)
 }
 
 // As restore, but the register's own floor is forgotten first. `flag` is 1 where a floor is proven, to which it is raised after.
@@ -396,5 +396,5 @@ pub fn resume(
     let on = admit(settings, words, register)?;
     let dump = dump::read_lengths(bytes).ok_or(Refusal::CutShort)?;
     let whole = restoring::resume(&mut words[0..on.need], &on, &dump, proven);
-    Ok(told_restored(whole, &dump))
+    told_restored(whole, &dump)
 }

@@ -16,8 +16,9 @@ mod vetted;
 pub use handed::{limits_of, starts_of};
 pub use vetted::Vetted;
 
-// Settings of 29 words, each in its bounds, or 1. It is inlined, so that vetting copies them once.
-#[inline(always)]
+// Settings of 29 words, each in its bounds, or 1. It is never inlined: what it computes with would lie on the stack while the words are
+// tested, which takes the most of it.
+#[inline(never)]
 #[tactic(auto, unfolding(crate::specs::Vetted::unfit_alone, model::specs::Calls::first_met, model::specs::Calls::settings_words_fit))]
 pub fn settings_entry(settings: &[u64]) -> Result<Vetted, Refusal>
     ensures { Enters settings.now (unfit_alone settings.now) result }

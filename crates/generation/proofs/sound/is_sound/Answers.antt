@@ -4,21 +4,20 @@ use lib.ListN.{get_or}
 use Rattle.generation.proofs.Testing.{sound_long, sound_rest, sound_aged, sound_empty, sound_not, sound_filled}
 use Rattle.generation.proofs.sound.is_sound.Goals as goal
 
-pub returns-then-most-head : goal.returns-then-most-head
-returns-then-most-head c = let long = rw c.of-head.ensures.slots at c.if-most-head.true in search sound_long
+pub returns-then-most-n : goal.returns-then-most-n
+returns-then-most-n c = let long = c.if-most-n.true in search sound_long
 
 pub returns-then-not-zeros_only : goal.returns-then-not-zeros_only
 returns-then-not-zeros_only c =
-    let h = c.of-head.ensures in
-    let fits = rw h.slots at c.if-most-head.false in
-    let tail = rw (c.live-live.ensures.end, h.slots) at c.zeros_only.ensures in
+    let fits = c.if-most-n.false in
+    let tail = rw c.live-live.ensures.end at c.zeros_only.ensures in
     search sound_rest
 
 pub returns-then-head : goal.returns-then-head
 returns-then-head c =
     let h = c.of-head.ensures in
-    let fits = rw h.slots at c.if-most-head.false in
-    let tail = rw (c.live-live.ensures.end, h.slots) at c.zeros_only.ensures in
+    let fits = c.if-most-n.false in
+    let tail = rw c.live-live.ensures.end at c.zeros_only.ensures in
     let s = c.args.part.now in
     let t = c.if-head.true in
     let aged : get_or s 2 0 < get_or s 4 0 = omega (arith, h.newest, h.oldest) in
@@ -27,8 +26,8 @@ returns-then-head c =
 pub returns-then-head-eq0 : goal.returns-then-head-eq0
 returns-then-head-eq0 c =
     let h = c.of-head.ensures in
-    let fits = rw h.slots at c.if-most-head.false in
-    let tail = rw (c.live-live.ensures.end, h.slots) at c.zeros_only.ensures in
+    let fits = c.if-most-n.false in
+    let tail = rw c.live-live.ensures.end at c.zeros_only.ensures in
     let s = c.args.part.now in
     let t = c.if-head.false in
     let aged : get_or s 4 0 ≤ get_or s 2 0 = omega (arith, h.newest, h.oldest) in
@@ -38,8 +37,8 @@ returns-then-head-eq0 c =
 pub returns-then-not-filled_sound : goal.returns-then-not-filled_sound
 returns-then-not-filled_sound c =
     let h = c.of-head.ensures in
-    let fits = rw h.slots at c.if-most-head.false in
-    let tail = rw (c.live-live.ensures.end, h.slots) at c.zeros_only.ensures in
+    let fits = c.if-most-n.false in
+    let tail = rw c.live-live.ensures.end at c.zeros_only.ensures in
     let s = c.args.part.now in
     let t = c.if-head.false in
     let aged : get_or s 4 0 ≤ get_or s 2 0 = omega (arith, h.newest, h.oldest) in
@@ -51,12 +50,12 @@ pub returns : goal.returns
 returns c =
     let h = c.of-head.ensures in
     let at = c.live-live.ensures in
-    let fits = rw h.slots at c.if-most-head.false in
-    let tail = rw (at.end, h.slots) at c.zeros_only.ensures in
+    let fits = c.if-most-n.false in
+    let tail = rw at.end at c.zeros_only.ensures in
     let s = c.args.part.now in
     let t = c.if-head.false in
     let aged : get_or s 4 0 ≤ get_or s 2 0 = omega (arith, h.newest, h.oldest) in
     let some = rw h.slots at c.if-head-eq0.false in
     let filled = rw (h.slots, h.held, h.bucket) at c.filled_sound.ensures in
-    let slots = rw (at.start, at.end, h.slots, h.held) at c.slots_sound.ensures in
+    let slots = rw (at.start, at.end, h.held) at c.slots_sound.ensures in
     search sound_filled

@@ -35,7 +35,7 @@ loop-generation-preserved c =
     record {
       bytes = one.same_bytes ∙ i.invariant.bytes;
       walking =
-          walking_next c.args.on.now.s c.args.on.now.r c.args.class from.bytes.now from.at c.args.before c.args.run.now _ _ i.reader.at _ _ _ _
+          walking_next c.args.on.now.s c.args.on.now.r c.args.class from.bytes.now from.at c.args.before c.args.run.now _ _ i.here.at _ _ _ _
           i.invariant.walking (omega arith) (rw i.invariant.bytes at one.next) acts.0 acts.1 _ (omega arith);
     }
 
@@ -44,11 +44,11 @@ returns-clause-acts c =
     let i = c.loop-generation in
     let from = c.args.reader.now in (
       i.invariant.walking.words,
-      (walking_end c.args.on.now.s c.args.on.now.r c.args.class from.bytes.now from.at c.args.before c.args.run.now _ i.reader.at _ _ i.invariant.walking (omega arith)).1,
+      (walking_end c.args.on.now.s c.args.on.now.r c.args.class from.bytes.now from.at c.args.before c.args.run.now _ i.here.at _ _ i.invariant.walking (omega arith)).1,
     )
 
 pub returns-clause-next : goal.returns-clause-next
 returns-clause-next c =
     let i = c.loop-generation in
     let from = c.args.reader.now in
-    (walking_end c.args.on.now.s c.args.on.now.r c.args.class from.bytes.now from.at c.args.before c.args.run.now _ i.reader.at _ _ i.invariant.walking (omega arith)).0
+    (walking_end c.args.on.now.s c.args.on.now.r c.args.class from.bytes.now from.at c.args.before c.args.run.now _ i.here.at _ _ i.invariant.walking (omega arith)).0
